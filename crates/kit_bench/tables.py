@@ -1,5 +1,5 @@
 #!/usr/bin/env python3
-"""The tables of docs/PERFORMANCE.md, as the built program measures them.
+"""The tables of docs/maintain/PERFORMANCE.md, as the built program measures them.
 
     python3 crates/kit_bench/tables.py [RUNS] [PART..]    each part that many times (1), all parts where none is named
 

@@ -6,7 +6,7 @@ import time
 
 from resp import Redis
 from shared import ALL, COUNTED, DONE, EXPORTS, GROUP, INBOX, NAME, PEERS, SCOPE, SECONDS, SERVICE, UNIT, Line, entries
-from kotskhin import Code, Export, Gateway, Message, Node, Refused
+from kotskhin import Code, Export, Gateway, Message, Refused
 
 # An export that another gateway read so long ago and did not acknowledge: it is gone, or slow. Then the export comes twice.
 IDLE_MILLISECONDS = 300
@@ -33,26 +33,25 @@ def main():
     port, me = int(sys.argv[1]), int(sys.argv[2])
     redis = Redis(port, SECONDS)
     line = Line(redis, seed=100 + me)
-    node = Node(Gateway(me))
+    gateway = Gateway(me)
     redis("SADD", PEERS, me)
     # A gateway that comes late: what was acknowledged before nobody tells again, and stands in the log.
     for _, fields in redis("XRANGE", EXPORTS, "-", "+"):
-        node.take(Export.decode(fields[1]))
+        gateway.take(Export.decode(fields[1]))
     seen, end = "0", time.monotonic() + SECONDS
     while time.monotonic() < end:
         came = entries(redis("XREADGROUP", "GROUP", GROUP, me, "COUNT", 10, "BLOCK", 20, "STREAMS", EXPORTS, ">"))
         came += entries([[EXPORTS, redis("XAUTOCLAIM", EXPORTS, GROUP, me, IDLE_MILLISECONDS, "0", "COUNT", 10)[1]]])
         for _, export in came:
-            node.take(Export.decode(export))
+            gateway.take(Export.decode(export))
         for peer in [int(it) for it in redis("SMEMBERS", PEERS) if came]:
             if peer != me:
-                line.send(INBOX(peer), node.send(peer).encode())
+                line.send(INBOX(peer), gateway.send(peer).encode())
         line.flush()
         for entry, _ in came:
             redis("XACK", EXPORTS, GROUP, entry)
         for seen, message in entries(redis("XREAD", "COUNT", 100, "STREAMS", INBOX(me), seen)):
-            hear(line, node, Message.decode(message))
-        gateway = node.gateway()
+            hear(line, gateway, Message.decode(message))
         if has_all(redis, gateway):
             redis("SADD", DONE, me)
             if redis("SCARD", DONE) == redis("SCARD", PEERS):
@@ -61,9 +60,9 @@ def main():
     sys.exit(f"gateway {me} never had all")
 
 
-def hear(line, node, message):
+def hear(line, gateway, message):
     """Hands over a message, and sends its answer, which makes later messages shorter."""
-    answer = node.hand(message)
+    answer = gateway.hand(message)
     if answer:
         line.send(INBOX(answer.envelope()[1]), answer.encode())
 

@@ -1,7 +1,7 @@
 #!/usr/bin/env python3
 """Four workers and three gateways, each a process of its own, over a broker: Redis, whose streams are a log with groups of readers.
 
-    KOTSKHIN_SO=PATH run.py          PATH is the shared library that docs/EMBEDDING.md makes
+    KOTSKHIN_SO=PATH run.py          PATH is the shared library that docs/use/SDK.md makes
 
 Why streams: an entry stays until it is acknowledged, and goes to another reader where the first one died, so it comes at least once;
 that it may come twice, and late, is what a gateway does not mind. Lists lose what a reader took along, and channels keep nothing.

@@ -4,7 +4,7 @@ import random
 import sys
 import time
 
-sys.path.insert(0, str(pathlib.Path(__file__).resolve().parents[2] / "embed" / "python"))
+sys.path.insert(0, str(pathlib.Path(__file__).resolve().parents[2] / "sdk" / "python"))
 
 SERVICE, SCOPE, NAME, UNIT = "shop", "app", "requests", "1"
 # A stream of all exports, from which each goes to one gateway of a group; and of each gateway a stream of what others tell it.

@@ -1,7 +1,7 @@
 #!/usr/bin/env python3
 """Three gateways that tell each other, a Prometheus that scrapes all three, and workers in Go, Python and Rust: a fleet without Docker.
 
-    run.py FOLDER [LANGUAGE..]      FOLDER is what embed/build made; go, python and rust where no language is named
+    run.py FOLDER [LANGUAGE..]      FOLDER is what sdk/build made; go, python and rust where no language is named
 
 While the workers count one gateway is killed and comes back, another is asked to end and comes back, and a worker is started once more.
 Each worker pushes to the first gateway that takes what it has. In the end Prometheus is asked, and must answer what the workers counted.
@@ -28,7 +28,7 @@ RECORDINGS = "1500"
 ADDRESS = "127.0.0.1"
 ONCE = "max without (instance) (requests_total)"
 QUERIES = (f"sum by (service_name) ({ONCE})", f"sum by (route) ({ONCE})", f"sum({ONCE})", "count by (service_name) (requests_total)", "up")
-GO = "module fleet\n\ngo 1.18\n\nrequire kotskhin v0.0.0\n\nreplace kotskhin => {}\n"
+GO = "module fleet\n\ngo 1.18\n\nrequire kotskhin.example/sdk/go v0.0.0\n\nreplace kotskhin.example/sdk/go => {}\n"
 RUST = """[package]
 name = "fleet"
 version = "0.1.0"
@@ -57,10 +57,10 @@ def built(kit, room, languages):
     """The gateway, and what starts a worker in each language."""
     go = {**os.environ, "PKG_CONFIG_PATH": f"{kit}/lib/pkgconfig", "GOFLAGS": "-mod=mod -buildvcs=false", "GOPROXY": "off"}
     gateway, folder = room / "kotskhin-gateway", room / "go"
-    subprocess.run(["go", "build", "-o", gateway, "./cmd/kotskhin-gateway"], cwd=TOP / "embed" / "go", env=go, check=True)
+    subprocess.run(["go", "build", "-o", gateway, "./cmd/kotskhin-gateway"], cwd=TOP / "service", env=go, check=True)
     folder.mkdir()
     shutil.copy(HERE / "worker.go", folder)
-    (folder / "go.mod").write_text(GO.format(TOP / "embed" / "go"))
+    (folder / "go.mod").write_text(GO.format(TOP / "sdk" / "go"))
     subprocess.run(["go", "build", "-o", "worker", "."], cwd=folder, env=go, check=True)
     workers = {"go": [folder / "worker"], "python": [sys.executable, "-B", HERE / "worker.py"]}
     if "rust" not in languages or not shutil.which("cargo"):
@@ -69,7 +69,7 @@ def built(kit, room, languages):
     folder = room / "rust"
     folder.mkdir()
     shutil.copy(HERE / "worker.rs", folder)
-    (folder / "Cargo.toml").write_text(RUST.format(TOP / "embed" / "rust" / "kotskhin"))
+    (folder / "Cargo.toml").write_text(RUST.format(TOP / "sdk" / "rust" / "kotskhin"))
     rust = {**os.environ, "KOTSKHIN_LIB": f"{kit}/lib", "CARGO_TARGET_DIR": str(folder / "target")}
     subprocess.run(["cargo", "build", "-q", "--offline"], cwd=folder, env=rust, check=True)
     return gateway, {**workers, "rust": [folder / "target" / "debug" / "worker"]}
@@ -111,7 +111,7 @@ class Fleet:
         """A worker begins. It knows the gateways in an order of its own."""
         shift = len(self.workers) % len(self.urls)
         words = [*map(str, self.commands[language]), service, RECORDINGS, *self.urls[shift:], *self.urls[:shift]]
-        given = {**os.environ, "KOTSKHIN_SO": f"{self.kit}/shared/libkotskhin.so.0", "PYTHONPATH": str(TOP / "embed" / "python")}
+        given = {**os.environ, "KOTSKHIN_SO": f"{self.kit}/shared/libkotskhin.so.0", "PYTHONPATH": str(TOP / "sdk" / "python")}
         self.workers.append(subprocess.Popen(words, stdin=subprocess.DEVNULL, stdout=subprocess.PIPE, text=True, env=given))
 
     def counted(self):

@@ -9,8 +9,8 @@ import (
 	"strconv"
 	"time"
 
-	"kotskhin/attribute"
-	"kotskhin/metric"
+	"kotskhin.example/sdk/go/attribute"
+	"kotskhin.example/sdk/go/metric"
 )
 
 func main() {

@@ -1,6 +1,6 @@
 //! A worker in Rust: worker SERVICE RECORDINGS GATEWAY.. . It pushes to the first gateway that takes what it has, and prints what it
 //! counted.
-use kotskhin::otel::{
+use kotskhin::metrics::{
     FirstOf, HttpExporter, KeyValue, PeriodicReader, PushExporter, Resource, SdkMeterProvider,
 };
 use std::time::Duration;

@@ -31,6 +31,7 @@ fn main() -> Result<(), Box<dyn Error>> {
     let mut ask = Ask::sum("app", "requests", "1", true)?;
     print!("{}", gateway.table(&ask)?);
     ask.keep([])?;
-    println!("counted {}", gateway.rows(&ask)?.sum(0)?);
+    let counted = gateway.rows(&ask)?.row(0)?.sum();
+    println!("counted {}", counted.unwrap_or_default());
     Ok(())
 }

@@ -1,6 +1,6 @@
 """What goes wrong where identities are shared, and what does not: scripts for `archivists`, with what each line must print.
 
-docs/ARCHIVES.md asks that each archive begins with a start or an instance of its own, and says what tells where that was not so."""
+docs/use/ARCHIVES.md asks that each archive begins with a start or an instance of its own, and says what tells where that was not so."""
 
 BEGUN = """
 take 1 shop/1 100 200 5 1   | taken 1

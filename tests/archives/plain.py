@@ -1,4 +1,4 @@
-"""Archives and keepers as docs/ARCHIVES.md and docs/GOSSIP.md tell of them, in plain dictionaries.
+"""Archives and keepers as docs/use/ARCHIVES.md and docs/design/GOSSIP.md tell of them, in plain dictionaries.
 
 A state is a dictionary of keys to cells. A key is an incarnation, the name of a stream and its attributes; a cell is a time, and a
 payload or CONFLICT. An incarnation is a service, an instance and a start. A sum is ("Sum", total), a gauge ("Gauge", value)."""

@@ -1,5 +1,5 @@
 #!/usr/bin/env python3
-"""Schedules of archives and keepers beside a plain reading of docs/ARCHIVES.md, and a soak whose memory is measured.
+"""Schedules of archives and keepers beside a plain reading of docs/use/ARCHIVES.md, and a soak whose memory is measured.
 
 The proved program `archivists` plays schedules that are made from a seed (schedules.py), with zombies, exports that come again and late, keepers that
 are parted, messages that are lost, doubled and late, and two archivists of two services, of disjoint incarnations, or careless ones.
@@ -35,7 +35,7 @@ SEED = 1
 # The soak: so many incarnations of so many sums, and an export after so many adoptions.
 INCARNATIONS, POINTS, EVERY = 30_000, 500, 20
 # What the process may have resident without any tombstone, and what one may cost, in bytes.
-LEAST, TOMBSTONE = 8 << 20, 1200
+LEAST, TOMBSTONE = 8 << 20, 780
 
 # Lines that are none, each behind good ones.
 BAD = [

@@ -1,17 +1,18 @@
 #!/usr/bin/env python3
 """What the docs name must stand in the code.
 
-In docs/PROMISES.md and the crate table of README.md a run of calls with clauses behind it, `Type::call`, `call` (`clause`, `clause`),
+In docs/design/PROMISES.md and the crate table of ARCHITECTURE a run of calls with clauses behind it, `Type::call`, `call` (`clause`, `clause`),
 says that each of these calls has each of these clauses, an `ensures clause { .. }` of its own; `clause` of `call` says the same. A call
 without a type is one of the type named before it in its cell, or a function. The crate is that of the row, or the one that `of` names,
 or any. A word of a group in capitals is one of the specs of the crate.
 
 In every page each relative link leads to a file and to a heading, each crate that is named is one, and no line cites a paper by number.
-In PAGES each file of the repository that is named in code letters is there, and each other name in code letters stands in the code. The
-files of specs/ that DEFINITIONS names exist. README's table has each crate once, and ARCHITECTURE's has what crates.txt says. The crates
-that README copies are COPIED and those that it stands on. The files that CONTRIBUTING lists as rooms of a word are those that name it.
+In PAGES each name in code letters that is no path stands in the code. Each path of the repository that any page, program or comment names
+is there. The files of specs/ that DEFINITIONS names exist. ARCHITECTURE's table has each crate once, and its list what crates.txt says.
+The crates that README copies are COPIED and those that it stands on. The files that CONTRIBUTING lists as rooms of a word are those that
+name it, and those that it lists of a text those that have it.
 
-README, CONTRIBUTING and the pages right in docs/ are easy to read. No sentence has more than MOST_WORDS words, code in letters
+PAGES are README, CONTRIBUTING and all of docs/ but its log. They are easy to read. No sentence has more than MOST_WORDS words, code in letters
 counted as one; a heading, a cell of a table and a list's item stand by themselves. No line is wider than MOST_WIDE, but for a row of a table, what is
 fenced, and a word that can't be parted. No cell of a table is wider than MOST_IN_CELL.
 
@@ -27,17 +28,26 @@ a clause of a caller names them. GUIDE names each caller.
 
 This ends with a status other than 0 where one of these does not hold, and names each place."""
 import collections
+import os
 import pathlib
 import re
 import sys
 
 TOP = pathlib.Path(sys.argv[1] if sys.argv[1:] else pathlib.Path(__file__).resolve().parents[2]).resolve()
-PAGES = ["README.md", "CONTRIBUTING.md", *(f"docs/{it}.md" for it in ("ARCHITECTURE", "BYTES", "DECISIONS", "DEFINITIONS", "GATE", "GOSSIP", "GUIDE", "HISTORIES", "PERFORMANCE", "PROMISES", "SCRIPTS"))]
+PAGES = ["README.md", "CONTRIBUTING.md", *sorted(str(it.relative_to(TOP)) for it in (TOP / "docs").glob("*/*.md"))]
 MOST_WORDS, MOST_WIDE, MOST_IN_CELL = 29, 140, 200
-# The crate that README copies to another repository.
-COPIED = "first"
+# The program that README copies to another repository.
+COPIED = "crates/uses/src/first.rt"
 # Names in code letters that are none of the kit's.
-FOREIGN = {"arrayvec::ArrayString", "Equivalent", "clap", "HANDLES"}
+FOREIGN = {"arrayvec::ArrayString", "Equivalent", "clap", "HANDLES", "libc_c", "mv", "getrandom", "gunicorn.conf.py", "replica", "std::cerr", "errors.Is", "http.Header", "http.Client"}
+# (OpenTelemetry's and its Collector's, CMake's, gunicorn's, and what Prometheus makes of names)
+FOREIGN |= {"OTLPMetricExporter", "otlphttp", "deltatocumulative", "CMAKE_PREFIX_PATH", "post_fork", "exported_instance", "exported_job", "meters_per_second"}
+# The pages whose names are those of the SDKs and of the service, and not of Rattle.
+OF_OTHERS = {f"docs/use/{it}.md" for it in ("C", "CPP", "GO", "PYTHON", "RUST", "SDK", "SERVICE")}
+# A page of both, whose names in small letters are the service's.
+REASONS = "docs/use/INTEROP.md"
+# A name of a thing in such a page: parts, and what is called with.
+PARTED = re.compile(r"[*&]*(\w+(?:(?:::|\.|->)\w+)*)(?:\(.*\)\??)?")
 # Libraries whose pages show no caller: laws without calls, what is for the kit alone, and the callers themselves.
 PAGES_ALONE = {"archive_kit", "schedule_kit", "shelf_kit", "uses"}
 # The public types, by their crates, that contracts speak of and that no code makes.
@@ -48,6 +58,8 @@ OF_THE_KIT = {
     # (archives and keepers are in no guide yet)
     "archive_kit": {"Archive", "AdoptFault", "ExportRefusal", "SealRefusal", "Keeper", "Taking"},
     "shelf_kit": {"Shelves", "Target", "Walk"},
+    # (why a request is refused: RequestFault has it beside its place)
+    "otlp_kit": {"RequestReason"},
     "writer_kit": {"Recordings"},
     # (the program `otm` is the caller of file_kit)
     "file_kit": {"PageFormat", "Reported", "FileCommand", "CommandFault", "FileFault", "SendFault", "Misfit", "Archiving", "ArchiveFault"},
@@ -61,6 +73,14 @@ RUN = rf"{SPAN}(?:(?:, and |, | and ){SPAN})*"
 CLAIM = re.compile(rf"(?P<calls>{RUN})(?: \((?P<group>`[^()]*)\))?(?: of `(?P<crate>\w+)`)?")
 TURNED = re.compile(rf"(?P<clauses>{RUN}) of (?P<calls>{RUN})")
 UNREAD = re.compile(rf"{SPAN} of {SPAN} \(`[^()]*\)")
+# A path from the top of the repository, behind `../` or alone; `embed` is what sdk/ and service/ once were together.
+PATH = re.compile(r"(?<![\w./$*}{)>~-])(?:\.\./)*((?:crates|docs|tests|sdk|service|lab|examples|wip|embed)(?:/(?:\*+(?:\.\w+)?|[\w.-]*\w))+)")
+# A file's name alone.
+FILE = re.compile(r"[\w-]+\.(?:h|hpp|so|a|so\.0|ktsm|ktsk|json|toml|py|md|txt|rs|go)")
+# The crate that README has a reader make in a repository of his own.
+ELSEWHERE = "crates/first"
+# Where no path is looked for: what builds leave, and texts of the prover, edits, patches and the ledger, which name none.
+UNREAD_FOLDERS, UNREAD_FILES = {".git", "out", "target", "__pycache__"}, (".antt", ".edit", ".patch", "known.txt", ".pyc")
 PAPER = re.compile(r"\b[TDRW][0-9]{1,2}[a-z]?\b|\bpapers? [0-9]")
 
 
@@ -132,7 +152,8 @@ def functions():
 class Docs:
     def __init__(self):
         self.crates, self.functions, self.faults, self.claims = crates(), functions(), [], 0
-        code = [it for kind in ("rt", "antt", "edit", "rs", "py", "go", "h", "c", "cpp") for it in TOP.glob(f"*/**/*.{kind}")]
+        kinds = ("rt", "antt", "edit", "rs", "py", "go", "h", "c", "cpp", "hpp", "in", "cmake", "toml", "json", "yml")
+        code = [it for kind in kinds for it in TOP.glob(f"*/**/*.{kind}")]
         code = [it for it in code if not {"out", "target"} & set(it.relative_to(TOP).parts) and it.parent != TOP / "tests" / "docs"]
         self.words = {word for it in code for word in [it.stem, *re.findall(r"\w+", text_of(it))]}
         self.words.update(re.findall(r"\w+", text_of(TOP / "crates.txt")))
@@ -185,7 +206,7 @@ class Docs:
         for number, line in enumerate(text_of(TOP / page).splitlines(), 1):
             cells = [it.strip() for it in line.strip("|").split("|")] if line.startswith("|") else []
             crate = cells[0] if cells and cells[0] in self.crates else crate if cells and not cells[0] else None
-            if cells and (crate or page != "README.md"):
+            if cells and (crate or page == "docs/design/PROMISES.md"):
                 for cell in cells:
                     self.check_cell(f"{page}:{number}", crate, cell)
 
@@ -203,7 +224,8 @@ class Docs:
                 self.fault(where, f"cites a paper by number: {PAPER.search(line)[0]}")
             if page in PAGES and not is_fenced:
                 for span in spans(line):
-                    self.check_name(where, span)
+                    is_of_others = page in OF_OTHERS or page == REASONS and re.fullmatch("[a-z]+(?:_[a-z]+)*", span)
+                    (self.check_other if is_of_others else self.check_name)(where, span)
 
     def check_reading(self, page):
         """Whether a page is easy to read: its sentences, its lines and the cells of its tables."""
@@ -230,9 +252,7 @@ class Docs:
             self.fault(where, f"the link {target} leads to no heading")
 
     def check_name(self, where, span):
-        if re.fullmatch(r"(?:crates|docs|tests|embed|examples|wip)/[\w./*-]+", span):
-            if not list(TOP.glob(span)):
-                self.fault(where, f"no file {span}")
+        if PATH.fullmatch(span):
             return
         call = re.fullmatch(r"(\w+)::([a-z_]\w*)(?:\(.*\))?", span)
         if call and not any(it[1:] == call.groups() for it in self.functions):
@@ -241,8 +261,32 @@ class Docs:
         if name and span not in FOREIGN and not span.isdigit() and any(it not in self.words for it in name[1].split("::")):
             self.fault(where, f"`{name[1]}` stands nowhere in the code")
 
+    def check_other(self, where, span):
+        """A name of an SDK or of the service: each part of it stands in the code. A figure may be named by its end, and a code in small letters."""
+        name = None if PATH.fullmatch(span) or FILE.fullmatch(span) else PARTED.fullmatch(span)
+        if not name or name[1] in FOREIGN or name[1].isdigit() or name[1].startswith("OTEL_"):
+            return
+        for part in re.split(r"::|\.|->", name[1]):
+            is_there = part in self.words or part.upper() in self.words
+            is_there |= part[0] == "_" and any(it.endswith(part.removesuffix("_total")[1:]) for it in self.words)
+            if not is_there and not part.isdigit():
+                self.fault(where, f"`{span}` stands nowhere in the code: {part}")
+
+    def check_paths(self):
+        """Each path of the repository that a file names is there: in prose, in a command or in code. What a build leaves in out/ need not be."""
+        for folder, folders, names in os.walk(TOP):
+            folders[:] = [it for it in folders if it not in UNREAD_FOLDERS]
+            for file in (pathlib.Path(folder, it) for it in names if not it.endswith(UNREAD_FILES)):
+                where = file.relative_to(TOP)
+                for number, line in enumerate(text_of(file).splitlines(), 1):
+                    for path in PATH.findall(line):
+                        self.claims += 1
+                        is_placeholder = {"out", "NAME", "CRATE"} & set(re.split(r"[/.]", path)) or path.startswith(ELSEWHERE)
+                        if not is_placeholder and not (TOP / path).exists() and not list(TOP.glob(path)):
+                            self.fault(f"{where}:{number}", f"no file {path}")
+
     def check_definitions(self):
-        page = "docs/DEFINITIONS.md"
+        page = "docs/design/DEFINITIONS.md"
         for number, line in enumerate(text_of(TOP / page).splitlines(), 1):
             for crate, files in re.findall(r"`(\w+_kit)` ((?:[A-Z]\w+(?:, )?)+)", line):
                 for file in files.strip(", ").split(", "):
@@ -251,16 +295,17 @@ class Docs:
                         self.fault(f"{page}:{number}", f"no file {file}.antt in the specs of {crate}")
 
     def check_tables(self):
-        rows = re.findall(r"^\| ([\w, ]+?) \|[^|]*\|$", text_of(TOP / "README.md"), re.M)
+        page = "docs/design/ARCHITECTURE.md"
+        rows = re.findall(r"^\| ([\w, ]+?) \|[^|]*\|$", text_of(TOP / page), re.M)
         named = [it for row in rows for it in row.split(", ")]
         drawn = {}
-        for line in text_of(TOP / "docs" / "ARCHITECTURE.md").splitlines():
+        for line in text_of(TOP / page).splitlines():
             name, *words = line.split() if line.startswith("    ") else [""]
             if name in self.crates:
                 drawn[name] = " ".join(words).replace(",", "").split()
         for crate, below in self.crates.items():
             if named.count(crate) != 1:
-                self.fault("README.md", f"the table has {crate} {named.count(crate)} times")
+                self.fault(page, f"the table has {crate} {named.count(crate)} times")
             if not (TOP / "crates" / crate).is_dir():
                 self.fault("crates.txt", f"no folder of {crate}")
             reached, waiting = set(), list(drawn.get(crate, []))
@@ -270,11 +315,16 @@ class Docs:
                 reached.add(name)
             wrong = set(drawn.get(crate, [])) - set(below) | {it for it in below if it in self.crates} - reached
             if crate not in drawn or wrong:
-                self.fault("docs/ARCHITECTURE.md", f"{crate} is not drawn as crates.txt has it: {', '.join(sorted(wrong)) or 'missing'}")
+                self.fault(page, f"{crate} is not drawn as crates.txt has it: {', '.join(sorted(wrong)) or 'missing'}")
 
     def check_copied(self):
-        loop = re.search(r"^for crate in (.*); do$", text_of(TOP / "README.md"), re.M)
-        reached, waiting = set(), [COPIED]
+        readme = text_of(TOP / "README.md")
+        loop = re.search(r"^for crate in (.*); do$", readme, re.M)
+        line = re.search(r'^echo "first: (.*)" >> crates\.txt$', readme, re.M)
+        named = set(re.findall(r"(?:^use |^ghost use Rattle\.|-> )(\w+)(?:::|\.)", text_of(TOP / COPIED), re.M)) - {"std"}
+        if not line or set(line[1].split()) != named:
+            self.fault("README.md", f"the line of crates.txt for {COPIED} is to name {', '.join(sorted(named))}")
+        reached, waiting = set(), [it for it in named if it in self.crates]
         while waiting:
             name = waiting.pop()
             waiting += [it for it in self.crates[name] if it in self.crates and it not in reached]
@@ -290,7 +340,7 @@ class Docs:
                 continue
             page = [it.removeprefix("//!").removeprefix(" ") for it in text_of(file).splitlines() if it.startswith("//!")]
             shown = [it.strip() for it in page if it.startswith("    ")]
-            named = re.findall(r"`((?:crates|embed)/[\w/]+\.\w+)`", "\n".join(page))
+            named = re.findall(r"`((?:crates|sdk)/[\w/]+\.\w+)`", "\n".join(page))
             lines = {it.strip() for name in named if (TOP / name).is_file() for it in text_of(TOP / name).splitlines()}
             self.claims += len(shown)
             if not shown and crate not in PAGES_ALONE:
@@ -317,6 +367,17 @@ class Docs:
             for file in sorted(there ^ set(spans(listed))):
                 self.fault(page, f"{file} {'names' if file in there else 'does not name'} {word}, and is {'not ' if file in there else ''}among its rooms")
 
+    def check_texts(self):
+        """The files that CONTRIBUTING lists under `<!-- texts: WORDS -->` are those that have the words."""
+        page, kinds = "CONTRIBUTING.md", {".rt", ".antt", ".md", ".py", ".c", ".h", ".go", ".rs", ".hpp", ".cpp"}
+        files = [it for folder in ("crates", "docs", "sdk", "service", "tests") for it in TOP.glob(f"{folder}/**/*") if it.suffix in kinds]
+        files = [it for it in files if not UNREAD_FOLDERS & set(it.relative_to(TOP).parts)]
+        for words, listed in re.findall(r"^<!-- texts: (.+) -->\n\n((?:- .*\n)+)", text_of(TOP / page), re.M):
+            there = {str(it.relative_to(TOP)) for it in files if words in text_of(it)}
+            self.claims += len(there)
+            for file in sorted(there ^ set(spans(listed))):
+                self.fault(page, f"{file} {'has' if file in there else 'has not'} '{words}', and is {'not ' if file in there else ''}in its list")
+
     def check_edits(self):
         """Whether each must-fail edit fits the code of today."""
         for edit in sorted(TOP.glob("crates/*/must-fail/*.edit")):
@@ -337,11 +398,11 @@ class Docs:
     def check_callers(self):
         """What a library re-exports in its lib.rt and defines as a type has a caller: one that imports it, or whose clauses name it."""
         texts = [text_of(it) for it in TOP.glob("crates/uses/src/**/*.rt")]
-        guide = text_of(TOP / "docs" / "GUIDE.md")
+        guide = text_of(TOP / "docs" / "use" / "GUIDE.md")
         for name in re.findall(r"^pub fn (\w+)", "\n".join(texts), re.M):
             self.claims += 1
             if f"`{name}`" not in guide:
-                self.fault("docs/GUIDE.md", f"its callers are without `{name}`")
+                self.fault("docs/use/GUIDE.md", f"its callers are without `{name}`")
         imports = [it for text in texts for it in re.findall(r"^use (\w+)::([^;]*);", text, re.M)]
         called = {(crate, name) for crate, names in imports for name in re.findall(r"\w+", names)}
         cited = {it for text in texts for it in re.findall(r"^ghost use Rattle\.(\w+)\.specs\.declared\.[\w.]*?(\w+)(?:\.TheVariants)?(?:\.\{| as )", text, re.M)}
@@ -358,17 +419,19 @@ class Docs:
                         self.fault(file.relative_to(TOP), f"no caller in crates/uses has the public type {name}")
 
     def check(self):
-        for page in ("README.md", "docs/PROMISES.md"):
+        for page in ("docs/design/ARCHITECTURE.md", "docs/design/PROMISES.md"):
             self.check_rows(page)
         for file in sorted([TOP / "README.md", TOP / "CONTRIBUTING.md", *TOP.glob("docs/**/*.md"), *TOP.glob("wip/*.md")]):
             self.check_page(str(file.relative_to(TOP)))
-        for file in [TOP / "README.md", TOP / "CONTRIBUTING.md", *sorted(TOP.glob("docs/*.md"))]:
-            self.check_reading(str(file.relative_to(TOP)))
+        for page in PAGES:
+            self.check_reading(page)
+        self.check_paths()
         self.check_definitions()
         self.check_tables()
         self.check_copied()
         self.check_library_pages()
         self.check_rooms()
+        self.check_texts()
         self.check_edits()
         self.check_callers()
 

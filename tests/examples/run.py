@@ -10,7 +10,8 @@ leaves the program in crates/otm/out, as each of two compilers builds it, and `r
 there does all of it.
 
 What PAGES quote of the crates must stand there: a comment `<!-- FILE: fn NAME -->` names what the next block, fenced as
-`rust`, has whole, and `, body` after it asks for the lines between its braces. Under the words `otm --help`, `otm help fleet` and
+`rust`, has whole. `, body` after it asks for the lines between its braces, `, use` for all but its clauses and ghosts, and `, contract` for
+its head and its clauses alone. Under the words `otm --help`, `otm help fleet` and
 `otm --version` COMMANDS_PAGE shows what these print, below SENTENCES_HEADING each text of SENTENCES and of NAMES, and no other, and
 below NOTES_HEADING each text of NOTES, and no other. Some bad line or some row gets each of them here.
 
@@ -29,10 +30,12 @@ TOP = pathlib.Path(__file__).resolve().parents[2]
 ROWS = pathlib.Path(__file__).resolve().parent / "rows"
 BAD_END = re.compile(rb"(?:.*\n)?line [0-9]+\n", re.S)
 BUILDS = ("otm", "otm.by-rattle")
-QUOTED = re.compile(r"^(<!-- (\S+): ([\w<> ]+)(, body)? -->\n\n?```rust\n)(.*?)^```$", re.S | re.M)
+QUOTED = re.compile(r"^(<!-- (\S+): ([\w<> ]+?)(?:, (body|use|contract))? -->\n\n?```rust\n)(.*?)^```$", re.S | re.M)
+# A clause of a function or a ghost of an impl, with the lines that go on with it.
+CLAUSE = re.compile(r"^    (?:requires|ensures|ghost)\b.*\n(?:        .*\n)*", re.M)
 SECONDS = 60
-PAGES = ("README.md", "docs/GUIDE.md", "docs/SCRIPTS.md")
-COMMANDS_PAGE = "docs/SCRIPTS.md"
+PAGES = ("README.md", "docs/use/GUIDE.md", "docs/use/SCRIPTS.md")
+COMMANDS_PAGE = "docs/use/SCRIPTS.md"
 SENTENCES_HEADING = "## What is wrong with a bad line"
 SENTENCES = "crates/script_kit/src/sentence.rt"
 NAMES = "crates/script_kit/src/reason.rt"
@@ -103,7 +106,7 @@ Options:
   -h, --help                   Print help
 
 """
-VERSION = b"otm 0.1.0\n\n"
+VERSION = f"otm {(TOP / 'VERSION').read_text(encoding='utf-8')}\n".encode()
 NO_VERSION = b"""error: unexpected argument '--version' found
 
 Usage: otm run
@@ -329,15 +332,21 @@ def told_scripts():
             yield f"{page}, script {place}", script.encode(), table.encode()
 
 
-def function_of(text, name, body):
-    """The lines of what stands under this name, its comment and attributes left out; or of its body alone, moved to the left."""
+def function_of(text, name, form):
+    """The lines of what stands under this name, its comment and attributes left out; or the part of them that a form asks for."""
     whole = re.search(rf"^((?:pub )?{re.escape(name)}\b.*?^)}}$", text, re.S | re.M)
     if whole is None:
         return None
-    if not body:
-        return whole.group(1) + "}\n"
-    lines = whole.group(1).split("\n{\n", 1)[1].splitlines()
-    return "".join(line.removeprefix("    ") + "\n" for line in lines)
+    head, _, body = whole.group(1).partition("\n{\n")
+    if form == "contract":
+        return head + "\n"
+    if form == "body":
+        return "".join(line.removeprefix("    ") + "\n" for line in body.splitlines())
+    if form == "use" and body:
+        return CLAUSE.sub("", head + "\n").rstrip() + " {\n" + body + "}\n"
+    if form == "use":
+        return re.sub(r"\{\n\n+", "{\n", re.sub(r"\n{3,}", "\n\n", CLAUSE.sub("", whole.group(1)))).rstrip() + "\n}\n"
+    return whole.group(1) + "}\n"
 
 
 def quotes():
@@ -347,15 +356,15 @@ def quotes():
         marks = QUOTED.findall(text)
         if len(marks) != text.count("```rust"):
             yield page, "a quotation that names no function"
-        for _, file, name, body, quoted in marks:
-            stands = function_of((TOP / file).read_text(), name, bool(body))
+        for _, file, name, form, quoted in marks:
+            stands = function_of((TOP / file).read_text(), name, form)
             yield f"{page}: {name}", "" if stands == quoted else f"{file} has {stands!r}"
 
 
 def quote():
     """Writes each quotation of a page anew."""
     for page in map(TOP.joinpath, PAGES):
-        page.write_text(QUOTED.sub(lambda it: it[1] + (function_of((TOP / it[2]).read_text(), it[3], bool(it[4])) or it[5]) + "```", page.read_text()))
+        page.write_text(QUOTED.sub(lambda it: it[1] + (function_of((TOP / it[2]).read_text(), it[3], it[4]) or it[5]) + "```", page.read_text()))
 
 
 def shown():

@@ -1,4 +1,4 @@
-"""Exports and messages as bytes, written from docs/BYTES.md alone: no code of the kit takes part."""
+"""Exports and messages as bytes, written from docs/design/BYTES.md alone: no code of the kit takes part."""
 import uuid
 import zlib
 

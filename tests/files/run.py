@@ -1,10 +1,10 @@
 #!/usr/bin/env python3
-"""What `otm` does on files: its tables, pages, requests and states, its refusals, and what docs/FILES.md shows.
+"""What `otm` does on files: its tables, pages, requests and states, its refusals, and what docs/use/FILES.md shows.
 
     tests/files/run.py [PROGRAM..]      these programs in place of those that lie in crates/otm/out
 
-The files are written by kept.py, from docs/BYTES.md alone. Each row has words, the status that they end with, and what both streams get. The blocks of
-docs/FILES.md that are fenced as `console` are run too, over the files that the page names: a line `$ otm ..`, and below it what is printed.
+The files are written by kept.py, from docs/design/BYTES.md alone. Each row has words, the status that they end with, and what both streams get. The blocks of
+docs/use/FILES.md that are fenced as `console` are run too, over the files that the page names: a line `$ otm ..`, and below it what is printed.
 Where a file is written, its old bytes must stay whatever fails: under a limit of a file's size, on a disk that is full, and where a call of calls.c is refused.
 The state that `otm merge` writes must be, byte for byte, the message that kept.py makes of the same cells, and `otm otlp` must write what the crate's tests
 hold `encode_otlp` to.
@@ -26,8 +26,8 @@ import kept
 
 HERE = pathlib.Path(__file__).resolve().parent
 TOP = HERE.parents[1]
-PAGE = TOP / "docs" / "FILES.md"
-BYTES = TOP / "docs" / "BYTES.md"
+PAGE = TOP / "docs" / "use" / "FILES.md"
+BYTES = TOP / "docs" / "design" / "BYTES.md"
 BUILDS = ("otm", "otm.by-rattle")
 SECONDS = 60
 
@@ -355,7 +355,7 @@ def pages(program, folder):
 
 
 def told_bytes():
-    """The bytes of the worked example of docs/BYTES.md."""
+    """The bytes of the worked example of docs/design/BYTES.md."""
     rows = re.findall(r"^\| ([0-9 ,]+) \| ", BYTES.read_text().split("## A worked example")[1].split("\n## ")[0], re.M)
     return bytes(int(it) for row in rows for it in re.findall(r"[0-9]+", row))
 

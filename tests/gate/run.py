@@ -9,7 +9,7 @@ that it refuses; the runners of tests/; and each must-fail edit that the ledger 
 for which there is no time fails. Then, as time allows: the programs that promise nothing (known.LATER) where they or what they run changed, the edits that were
 left before, and of the known ones a few that chance picks. Edits are tried over the crates' own proofs, many in one check (edits.py, trials.py).
 
-Both kinds of runs write what they saw to known.txt. The table of tiers and costs goes to docs/log/gate.md. The last line is 'N passed, M failed', with
+Both kinds of runs write what they saw to known.txt. The table of tiers and costs goes to docs/maintain/log/gate.md. The last line is 'N passed, M failed', with
 ', K skipped' for what time did not allow. A crate, a runner and an edit count one each; what is known counts as passed."""
 import contextlib
 import io
@@ -316,8 +316,8 @@ class Gate:
         count = f"{self.passed} passed, {len(self.failed)} failed, {len(self.skipped)} left"
         head = [f"Written by `tests/gate/run.py`: {count}, on {rt.processors()} processors, {version()}."]
         page = costs.table(self.ledger, head, self.tiers, self.stages, self.took)
-        (TOP / "docs" / "log").mkdir(parents=True, exist_ok=True)
-        (TOP / "docs" / "log" / "gate.md").write_text(page, encoding="utf-8")
+        (TOP / "docs" / "maintain" / "log").mkdir(parents=True, exist_ok=True)
+        (TOP / "docs" / "maintain" / "log" / "gate.md").write_text(page, encoding="utf-8")
         print(page)
         if self.skipped:
             rt.say(f"left for want of time: {' '.join(self.skipped)}")

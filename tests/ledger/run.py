@@ -1,5 +1,5 @@
 #!/usr/bin/env python3
-"""The gate's ledger, held to what docs/GATE.md says of it, on a small tree made for it: nothing is proved here.
+"""The gate's ledger, held to what docs/maintain/GATE.md says of it, on a small tree made for it: nothing is proved here.
 
 This ends with a status other than 0 where one of these does not hold."""
 import pathlib

@@ -49,13 +49,14 @@ SPARING += ("Periodic::tick", "Periodic::flush", "World::apply, Collect", "World
 # A take that brings in new keys sets its guesses at places right where there is memory for it, and else leaves them.
 SPARING += ("World::apply, Deliver",)
 
-# Where the points of a held set or of a log's set stand is kept where there is memory for it, and else they are looked up again.
-SPARING += ("Tally::measure_held, two feeds", "Recorder::give_to", "Writer::take_in", "SharedWriter::try_take_in", "SharedWriter::take_in")
+# Where the points of a log's set stand is kept where there is memory for it, and else they are looked up again. So it is of a held set
+# at a feed that keeps some keys of it: what is kept is copied to find its point.
+SPARING += ("Tally::measure_held, a list of keys", "Recorder::give_to", "Writer::take_in", "SharedWriter::try_take_in", "SharedWriter::take_in")
 
 # How many growths, a call's last, are those of the guesses at places or of the places that are kept: they may be spared alone and with
 # all that follow.
 GUESSING = {"Gateway::take, a new writer": 1, "SharedGateway::try_take": 1, "SharedGateway::take": 1, "Node::take": 1}
-GUESSING |= {"Tally::measure_held, two feeds": 3, "Writer::take_in": 3, "SharedWriter::try_take_in": 3, "SharedWriter::take_in": 3}
+GUESSING |= {"Tally::measure_held, a list of keys": 2, "Writer::take_in": 3, "SharedWriter::try_take_in": 3, "SharedWriter::take_in": 3}
 
 # A log of one recording that is taken in, and one of which nothing was taken in for want of memory.
 TAKEN = "Taken { recorded: 1, refused: 0, first: None }"
@@ -84,7 +85,9 @@ CALLS = [
     ("Tally::hold", "Ok(0) | changed | Ok(1)", KEPT),
     ("Tally::measure_held, two feeds", "Ok(()) | changed | Ok(())", KEPT),
     ("Tally::measure_held, one feed", "Ok(()) | changed | Ok(())", KEPT),
+    ("Tally::measure_held, a list of keys", "Ok(()) | changed | Ok(())", KEPT),
     ("Tally::measure_held, a held set", "Ok(()) | changed | Ok(())", NO_MEMORY_TAKEN),
+    ("Tally::measure_held, a set held twice", "Ok(()) | changed | Ok(())", NO_MEMORY_TAKEN),
     ("Recorder::new", "Ok", MADE),
     ("Recorder::measure, a new set", "Ok(()) | changed | Ok(())", KEPT),
     ("Recorder::measure, a noted set", "Ok(()) | changed | Ok(())", NO_MEMORY_TAKEN),

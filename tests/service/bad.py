@@ -7,7 +7,7 @@ import threading
 import time
 
 from fleet import ANSWER, Fault, Gateway, asked, page_of, until
-from kotskhin import COUNTER, GAUGE, HISTOGRAM, Attributes, Node, Plan, Writer
+from kotskhin import COUNTER, GAUGE, HISTOGRAM, Attributes, Plan, Writer
 from kotskhin import Gateway as Kit
 
 ADDRESS, PORT = "127.0.0.1", 19465
@@ -37,7 +37,7 @@ def sample():
 def seeds_of(identity):
     """A good body for each path, as for a gateway of this id."""
     export = sample()
-    node = Node(Kit(identity ^ 1))
+    node = Kit(identity ^ 1)
     node.take(export)
     return {"/v1/exports": export.encode(), "/v1/metrics": export.otlp(), "/v1/messages": node.send(identity).encode()}
 

@@ -1,6 +1,5 @@
 """One seed: three gateways, eight workers, and a nemesis. Half-way all rest, and what is held is adopted. In the end each gateway's tables and page, and what Prometheus keeps of it, are
 the same, and what the workers were told was taken."""
-import threading
 import time
 
 from fleet import PATIENCE, PORT, Fault, Gateway, page_of, tables_of, until

@@ -87,13 +87,14 @@ def comes_back(program, room):
 
 
 def is_read_by_otm_form(program, room):
-    """The state is a message as docs/FILES.md has it: the Python kit reads it."""
+    """The state is a message as docs/use/FILES.md has it: the Python kit reads it."""
     from kotskhin import Gateway as Kit
 
     with Trial(program, room, "form") as it:
         pushed(it.gateway, 1, 5)
         it.gateway.stop()
-        with Kit.decode((it.folder / "state.ktsm").read_bytes()) as kept:
+        with Kit(2) as kept:
+            kept.merge_bytes((it.folder / "state.ktsm").read_bytes())
             if "5\n" not in kept.sum("service.test", "requests", "1"):
                 raise Fault("the state is of something else")
 

@@ -1,4 +1,4 @@
-"""What README and docs/SERVICE.md say is so: the commands, the queries, the flags, the paths and what a gateway says of itself."""
+"""What README and docs/use/SERVICE.md say is so: the commands, the queries, the flags, the paths and what a gateway says of itself."""
 import contextlib
 import os
 import pathlib
@@ -16,7 +16,7 @@ from prometheus import running
 TOP = pathlib.Path(__file__).resolve().parents[2]
 FLEET = TOP / "examples" / "fleet"
 README = (TOP / "README.md").read_text(encoding="utf-8")
-PAGE = (TOP / "docs" / "SERVICE.md").read_text(encoding="utf-8")
+PAGE = (TOP / "docs" / "use" / "SERVICE.md").read_text(encoding="utf-8")
 ADDRESS, PORT = "127.0.0.1", 19466
 # What a gateway that holds nothing answers to a bare request, where it is not 200.
 OF_NOTHING = {"/v1/table": 404, "/v1/rows": 404, "/v1/metrics": 415, "/v1/exports": 400, "/v1/messages": 400, "/v1/gone": 400}
@@ -24,14 +24,14 @@ OF_NOTHING = {"/v1/table": 404, "/v1/rows": 404, "/v1/metrics": 415, "/v1/export
 
 def commands(program, room, kit):
     """README's commands print the total that the worker counted."""
-    lines = re.search(r"^```sh\n(embed/out/kotskhin-gateway.*?)^```$", README, re.M | re.S)[1]
+    lines = re.search(r"^```sh\n(service/out/kotskhin-gateway.*?)^```$", README, re.M | re.S)[1]
     script, asks = re.split(r"\s+&&\s+sleep 2\s+&&\s+", lines.rstrip())
     folder = room / "documented"
     folder.mkdir()
     shutil.copy(program, folder / "kotskhin-gateway")
-    given = {**os.environ, "KOTSKHIN_SO": f"{kit}/shared/libkotskhin.so.0", "PYTHONPATH": str(TOP / "embed" / "python")}
+    given = {**os.environ, "KOTSKHIN_SO": f"{kit}/shared/libkotskhin.so.0", "PYTHONPATH": str(TOP / "sdk" / "python")}
     given |= {"PYTHONDONTWRITEBYTECODE": "1", "TMPDIR": str(folder)}
-    script = script.replace("embed/out/", f"{folder}/") + "\nwait"
+    script = script.replace("service/out/", f"{folder}/") + "\nwait"
     with open(folder / "log", "wb") as log:
         process = subprocess.Popen(
             ["sh", "-c", script], cwd=TOP, env=given, stdin=subprocess.DEVNULL, stdout=log, stderr=log, start_new_session=True

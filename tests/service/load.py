@@ -13,7 +13,7 @@ from fleet import PORT, Gateway, asked, until
 HERE = pathlib.Path(__file__).resolve().parent
 ADDRESS, PUSH = "127.0.0.1", 9091
 UNCHECKED = "--push.disable-consistency-check"
-MODULE = "module load\n\ngo 1.18\n\nrequire kotskhin v0.0.0\n\nreplace kotskhin => {}\n"
+MODULE = "module load\n\ngo 1.18\n\nrequire kotskhin.example/sdk/go v0.0.0\n\nreplace kotskhin.example/sdk/go => {}\n"
 
 
 def built(room):
@@ -21,7 +21,7 @@ def built(room):
     folder = room / "load"
     folder.mkdir()
     shutil.copy(HERE / "load" / "main.go", folder)
-    (folder / "go.mod").write_text(MODULE.format(HERE.parents[1] / "embed" / "go"))
+    (folder / "go.mod").write_text(MODULE.format(HERE.parents[1] / "sdk" / "go"))
     given = {**os.environ, "GOFLAGS": "-mod=mod -buildvcs=false", "GOPROXY": "off"}
     subprocess.run(["go", "build", "-o", "load", "."], cwd=folder, env=given, check=True)
     return folder / "load"

@@ -1,5 +1,5 @@
 #!/usr/bin/env python3
-"""The gateway as a service: embed/go/cmd/kotskhin-gateway, as its processes do what docs/SERVICE.md says.
+"""The gateway as a service: service/cmd/kotskhin-gateway, as its processes do what docs/use/SERVICE.md says.
 
     run.py [FOLDER]                            the short form, as the gate runs it
     run.py --seeds 200 [--first 1] [FOLDER]    the chaos test alone, of so many seeds
@@ -8,7 +8,7 @@
     run.py --fleet [FOLDER]                    examples/fleet alone, which builds a worker and takes longer
     run.py --load [FOLDER]                     how much one gateway takes, beside a Pushgateway
 
-FOLDER is what embed/build made; where none is given it is made of crates/kit_c/out/libkit_c.a, as in tests/embed. Nothing is proved here.
+FOLDER is what sdk/build made; where none is given it is made of crates/kit_c/out/libkit_c.a, as in tests/sdk. Nothing is proved here.
 
 The chaos test: three gateways, each in a network namespace of its own, and eight workers that count, push and are told what was taken. From
 a seed a nemesis kills and restarts gateways, parts them by iptables, loses packets, stops processes, fills the disks of their states, has a
@@ -21,9 +21,11 @@ this is told.
 Archives: workers come, end and are adopted while a Prometheus scrapes two gateways, of which one adopts. No series is reset, and each grows
 as it was counted. Then many incarnations go through one gateway that could hold few of them, and its memory stays as it is.
 
+The module: its files are as gofmt has them, `go vet` and staticcheck find nothing, and the tests of its packages pass.
+
 Bad input: random and changed bodies to each path, cut bodies, slow senders, wrong tokens. Each has its status, and nothing is taken. Disks:
 a damaged state and a damaged journal are told and set aside, and a full disk refuses. Docs: the commands of README print their total, its
-query of three gateways and the rules of examples/fleet give the total once, Prometheus reads the configurations, and docs/SERVICE.md has the
+query of three gateways and the rules of examples/fleet give the total once, Prometheus reads the configurations, and docs/use/SERVICE.md has the
 flags, the paths and the figures that there are.
 
 It ends with a status other than 0 where one of these does not hold. What is not on this machine is a fault, unless GATE_WITHOUT names
@@ -42,10 +44,10 @@ import time
 sys.dont_write_bytecode = True
 HERE = pathlib.Path(__file__).resolve().parent
 TOP = HERE.parents[1]
-EMBED = TOP / "embed"
+SDK, SERVICE = TOP / "sdk", TOP / "service"
 ARCHIVE = TOP / "crates" / "kit_c" / "out" / "libkit_c.a"
-sys.path[:0] = [str(HERE), str(EMBED / "python")]
-WANTED = ("go", "pkg-config", "prometheus")
+sys.path[:0] = [str(HERE), str(SDK / "python")]
+WANTED = ("go", "go-staticcheck", "pkg-config", "prometheus")
 # How long the short form's chaos goes on for a seed, and its seeds.
 SECONDS, SEEDS, BAD, SOAK = 5, 2, 300, 1500
 INSIDE = "KOTSKHIN_SERVICE_INSIDE"
@@ -78,21 +80,26 @@ def is_missing():
 def laid_out(kit):
     if not ARCHIVE.is_file():
         sys.exit(f"there is no {ARCHIVE.relative_to(TOP)}: `rt lib` in crates/kit_c builds it")
-    command = [sys.executable, "-B", str(EMBED / "build"), "--archive", str(ARCHIVE), str(kit)]
+    command = [sys.executable, "-B", str(SDK / "build"), "--archive", str(ARCHIVE), str(kit)]
     if subprocess.run(command, stdin=subprocess.DEVNULL, check=False).returncode:
         sys.exit("the archive was not laid out")
+
+
+def in_module(kit, room, *command):
+    """What a command comes to in the service's module, and what it prints."""
+    given = {**os.environ, "PKG_CONFIG_PATH": f"{kit}/lib/pkgconfig", "GOFLAGS": "-mod=mod -buildvcs=false", "GOPROXY": "off"}
+    if "HOME" not in given:
+        given = {"GOCACHE": str(room / "go"), "STATICCHECK_CACHE": str(room / "staticcheck"), **given}
+    done = subprocess.run(command, cwd=SERVICE, env=given, stdin=subprocess.DEVNULL, capture_output=True, text=True, check=False)
+    return done.returncode, done.stdout + done.stderr
 
 
 def built(kit, room):
     """The gateway's program."""
     program = room / "kotskhin-gateway"
-    given = {**os.environ, "PKG_CONFIG_PATH": f"{kit}/lib/pkgconfig", "GOFLAGS": "-mod=mod -buildvcs=false", "GOPROXY": "off"}
-    if "HOME" not in given and "GOCACHE" not in given:
-        given["GOCACHE"] = str(room / "go")
-    command = ["go", "build", "-o", str(program), "./cmd/kotskhin-gateway"]
-    told = subprocess.run(command, cwd=EMBED / "go", env=given, stdin=subprocess.DEVNULL, capture_output=True, text=True, check=False)
-    if told.returncode:
-        sys.exit(f"the gateway is not built:\n{told.stdout}{told.stderr}")
+    status, told = in_module(kit, room, "go", "build", "-o", str(program), "./cmd/kotskhin-gateway")
+    if status:
+        sys.exit(f"the gateway is not built:\n{told}")
     return program
 
 
@@ -114,6 +121,20 @@ class Run:
             return
         self.passed += 1
         print(f"{what}: ok, in {time.monotonic() - began:.1f} s{'' if told is None else f': {told}'}", flush=True)
+
+    def module(self, kit):
+        """The service's files are as gofmt has them, vetted and checked, and the tests of its packages pass."""
+        from fleet import Fault
+
+        def tried(*command):
+            status, told = in_module(kit, self.room, *command)
+            if status or command[0] == "gofmt" and told:
+                raise Fault(f"{' '.join(command)}: status {status}\n{told}")
+
+        self.try_it("the module: as gofmt has it", lambda: tried("gofmt", "-l", "."))
+        self.try_it("the module: vetted", lambda: tried("go", "vet", "./..."))
+        self.try_it("the module: staticcheck", lambda: tried("go-staticcheck", "./..."))
+        self.try_it("the module: its tests", lambda: tried("go", "test", "-count=1", "-timeout=50m", "./..."))
 
     def chaos(self, seeds):
         import chaos
@@ -211,6 +232,8 @@ def main():
             import documented
 
             run.try_it("docs: examples/fleet", lambda: documented.fleet(run.program, room, kit))
+        if is_whole:
+            run.module(kit)
         if is_whole or given.bad:
             run.bad(given.bad or BAD)
         if is_whole:

@@ -1,6 +1,6 @@
 -- Places that are known: what is true of them at one feed, and that they stay.
-use Rattle.std.proofs.Common.{is_none, IfSome, Option, Result, Ok, Err, OnOk, ◌⊎◌, ◌==◌, true≢false, ◌≡◌, ℕ, ℤ, ◌+◌, ◌<◌, ◌∙◌, inl, inr, Bool, true, false, List, [], ◌∷◌, ◌++◌, Some, length, get_or, slice_get, position, refl, sym, ap, subst, suc, zero, arith, if◌then◌else◌, is_some, None, cond, not, nat_lt, ltb-true, lt-ltb, length-append}
-use Rattle.std.specs.Prelude.{slice_set}
+use Rattle.std.proofs.Common.{is_none, IfSome, Option, Result, Ok, Err, OnOk, OnErr, ◌⊎◌, ◌==◌, true≢false, ◌≡◌, ℕ, ℤ, ◌+◌, ◌<◌, ◌∙◌, inl, inr, Bool, true, false, List, [], ◌∷◌, ◌++◌, Some, length, get_or, slice_get, position, refl, sym, ap, subst, suc, zero, arith, if◌then◌else◌, is_some, None, cond, not, nat_lt, ltb-true, lt-ltb, length-append}
+use Rattle.std.specs.Prelude.{◌≤◌, slice_set, vec_capacity}
 use Rattle.std.specs.Cmp.{unsigned_Decides}
 use Rattle.std.specs.List.{position_or_len}
 use Rattle.std.specs.Map.{keys_of}
@@ -12,13 +12,13 @@ use Rattle.point_kit.specs.declared.payload.Payload.{Payload}
 use Rattle.point_kit.specs.declared.shape.Shape.{Shape}
 use Rattle.plan_kit.specs.Plans.{Planned, Source, AreFeeds, feeds_of, kind_of}
 use Rattle.plan_kit.specs.declared.feed.Feed.{Feed}
-use Rattle.agg_kit.specs.Held.{held_of, place_of, AreOf, AreAt, AreKnown, ArePlaced, IsFed, IsHeldAt, IsOwnPlace, IsPlaceless, MayGive}
+use Rattle.agg_kit.specs.Held.{held_of, place_of, AreOf, AreAt, AreKnown, ArePlaced, HasRoom, HaveRoom, IsFed, IsHeldAt, IsOwnPlace, IsPlaceless, MayGive}
 use Rattle.agg_kit.specs.Entries.{Entry, Arrivals, arrivals_from, entry_of}
 use Rattle.agg_kit.specs.Feeding.{set_eq, has_set, add_once}
-use Rattle.agg_kit.specs.Feeds.{entries_of, series_at, shape_at, first_out, AllHeld, IsHeld}
+use Rattle.agg_kit.specs.Feeds.{entries_of, series_at, shape_at, first_out, is_copied, AllHeld, IsHeld}
 use Rattle.agg_kit.specs.FreshPoints.{payload_with, add_at}
 use Rattle.agg_kit.specs.Held.{whole_feed}
-use Rattle.agg_kit.specs.Measuring.{points_after, series_after, after_measure, after_held, fault_of, early_fault_of, held_entry, held_fault_of, early_held_fault_of, IsMeasured}
+use Rattle.agg_kit.specs.Measuring.{emptied_tally, points_after, series_after, after_measure, after_held, fault_of, early_fault_of, held_entry, held_fault_of, early_held_fault_of, IsMeasured}
 use Rattle.agg_kit.specs.Laws.{PlacesStay, PlacesStayHeld}
 use Rattle.agg_kit.specs.Payloads.{is_out_of_range}
 use Rattle.agg_kit.specs.Steps.{Stored, has_point, fed_set, payload_after, step}
@@ -30,10 +30,10 @@ use Rattle.agg_kit.specs.declared.fault.TallyFault.{TallyFault}
 use Rattle.agg_kit.specs.declared.fault.TallyFault.TheVariants as faults
 use Rattle.agg_kit.proofs.Distinct.{same}
 use Rattle.agg_kit.proofs.Inserts.{put, place-now, place-stays}
-use Rattle.agg_kit.proofs.Records.{if_some, get-push, set-here, set-other, entries-read, first-here, first-kept, leaves-here, read, read-there}
+use Rattle.agg_kit.proofs.Records.{if_some, get-push, set-here, set-other, entries-read, first-here, first-kept, leaves-here, new-gone, read, read-there}
 use Rattle.agg_kit.proofs.Rounds.{at-after}
 use Rattle.agg_kit.proofs.Sound.{keys-insert}
-use Rattle.agg_kit.proofs.Steps.{valued, within-has_point, add_under-has_point, range-there}
+use Rattle.agg_kit.proofs.Steps.{absent, valued, within-has_point, add_under-has_point, range-there}
 
 -- what is known is there where something is known
 pub known-at : (p : Planned) (fs : List Feed) (is : List ℕ) (a : AttrSet) (ss : List Points) → AreKnown p fs is a ss → 0 < length is → AreAt p fs is a ss
@@ -100,6 +100,16 @@ pub stream-below : (n : ℕ) (fs : List Feed) (i : ℕ) (f : Feed) → AreFeeds 
 stream-below n [] i f fit l is = absurd (omega arith)
 stream-below n (g ∷ fs) zero f fit l is = subst (λ (x : Feed). x.stream < n) (sym is) fit.0
 stream-below n (g ∷ fs) (suc i) f fit l is = stream-below n fs i f fit.2 (omega arith) is
+
+-- of points that are all there
+pub held-feed : (p : Planned) (fs : List Feed) (a : AttrSet) (ss : List Points) (i : ℕ) (f : Feed) → AllHeld p fs a ss → i < length fs → f ≡ get_or fs i f
+    → (is_copied f.keep a ≡ false) × (has_point (series_at ss f.stream) (fed_set p.limit (series_at ss f.stream) (kept f.keep a)) ≡ true)
+held-feed p [] a ss i f all l is = absurd (omega arith)
+held-feed p (g ∷ fs) a ss zero f all l is = subst (λ (x : Feed). (is_copied x.keep a ≡ false) × (has_point (series_at ss x.stream) (fed_set p.limit (series_at ss x.stream) (kept x.keep a)) ≡ true)) (sym is) (all.0, all.1)
+held-feed p (g ∷ fs) a ss (suc i) f all l is = held-feed p fs a ss i f all.2 (omega arith) is
+
+pub place-there : (limit : ℕ) (es : Points) (a : AttrSet) → has_point es (fed_set limit es a) ≡ true → place_of limit es a ≡ None → ⊥
+place-there limit es a there none = new-gone es (fed_set limit es a) (absent es (fed_set limit es a) none) there
 
 -- ---- they stay
 
@@ -217,6 +227,48 @@ pub each-known : (t : Tallied) (i : ℕ) (a : AttrSet) (k : Places) → AreOf t 
 each-known t i a k (inl none) = inl none.0
 each-known t i a k (inr at) = at.known
 
+pub own-kept : (t : Tallied) (i : ℕ) (a : AttrSet) (k : Places) → AreOf t i a k → IfSome k.own (IsOwnPlace t.plan t.series i a)
+own-kept t i a k (inl none) = subst (λ (o : Option OwnPlace). IfSome o (IsOwnPlace t.plan t.series i a)) (sym none.1) tt
+own-kept t i a k (inr at) = at.own
+
+-- ---- room for places
+
+-- one more that has room, and another in the place of one
+pub room-push : (p : Planned) (hs ks : List HeldPoint) (h : HeldPoint) → ks ≡ hs ++ h ∷ [] → HaveRoom p hs → HasRoom (feeds_of p h.instrument) h.places → HaveRoom p ks
+room-push p hs ks h is all one = λ n k at. by n k (get-push hs h k n (sym (ap (λ (l : List HeldPoint). slice_get l n) is) ∙ at))
+  where
+    by : (n : ℕ) (k : HeldPoint) → (slice_get hs n ≡ Some k) ⊎ ((n ≡ length hs) × (h ≡ k)) → HasRoom (feeds_of p k.instrument) k.places
+    by n k (inl g) = all n k g
+    by n k (inr g) = subst (λ (x : HeldPoint). HasRoom (feeds_of p x.instrument) x.places) g.1 one
+
+pub room-set : (p : Planned) (hs : List HeldPoint) (n : ℕ) (h : HeldPoint) → n < length hs → HaveRoom p hs → HasRoom (feeds_of p h.instrument) h.places → HaveRoom p (slice_set hs n h)
+room-set p hs n h l all one = λ m k at. by m k at (n == m) refl
+  where
+    by : (m : ℕ) (k : HeldPoint) → slice_get (slice_set hs n h) m ≡ Some k → (b : Bool) → (n == m) ≡ b → HasRoom (feeds_of p k.instrument) k.places
+    by m k at true e =
+        let same : n ≡ m = (unsigned_Decides n m).0 e in
+        let is : Some h ≡ Some k = sym (set-here hs n h l) ∙ ap (slice_get (slice_set hs n h)) same ∙ at in
+        let h≡k : h ≡ k = cc in
+        subst (λ (x : HeldPoint). HasRoom (feeds_of p x.instrument) x.places) h≡k one
+    by m k at false e = all m k (sym (set-other hs n m h (λ q. true≢false (sym ((unsigned_Decides n m).1 (sym q)) ∙ e))) ∙ at)
+
+-- where there was room there is, where the room did not shrink
+pub room-kept : (fs : List Feed) (k q : Places) → vec_capacity k.each ≤ vec_capacity q.each → HasRoom fs k → HasRoom fs q
+room-kept fs k q l (inl lone) = inl lone
+room-kept fs k q l (inr room) = inr (omega (arith, l, room))
+
+pub plan-kept : {U : Type 0} (t s : Tallied) (e : Entry) (told : Result U TallyFault) → IsMeasured t s e told → s.plan ≡ t.plan
+plan-kept t s e (Ok x) m = ap (λ (u : Tallied). u.plan) m.value
+plan-kept t s e (Err f) m = ap (λ (u : Tallied). u.plan) m.unchanged
+
+pub plan-restarted : {U F : Type 0} (t s : Tallied) (told : Result U F) → OnOk told (s ≡ emptied_tally t) → OnErr told (s ≡ t) → s.plan ≡ t.plan
+plan-restarted t s (Ok x) value unchanged = ap (λ (u : Tallied). u.plan) value
+plan-restarted t s (Err f) value unchanged = ap (λ (u : Tallied). u.plan) unchanged
+
+-- what a tally keeps true of what it holds, after a recording
+pub kept-measured : {U : Type 0} (t s : Tallied) (e : Entry) (told : Result U TallyFault) (hs : List HeldPoint) → IsMeasured t s e told → ArePlaced t hs × HaveRoom t.plan hs → ArePlaced s hs × HaveRoom s.plan hs
+kept-measured t s e told hs m k = (placed-measured t s e told hs m k.0, subst (λ (p : Planned). HaveRoom p hs) (sym (plan-kept t s e told m)) k.1)
+
 -- one more that is held
 pub placed-push : (t : Tallied) (hs ks : List HeldPoint) (h : HeldPoint) → ks ≡ hs ++ h ∷ [] → ArePlaced t hs → IsPlaceless h.places → ArePlaced t ks
 placed-push t hs ks h is all none = λ n k at. by n k (get-push hs h k n (sym (ap (λ (l : List HeldPoint). slice_get l n) is) ∙ at))
@@ -226,6 +278,12 @@ placed-push t hs ks h is all none = λ n k at. by n k (get-push hs h k n (sym (a
     by n k (inr g) = inl (subst (λ (x : HeldPoint). IsPlaceless x.places) g.1 none)
 
 -- none is held
+pub room-none : (p : Planned) (hs : List HeldPoint) → hs ≡ [] → HaveRoom p hs
+room-none p hs is = λ n h at. by n h (sym (ap (λ (l : List HeldPoint). slice_get l n) is) ∙ at)
+  where
+    by : (n : ℕ) (h : HeldPoint) → (let l : List HeldPoint = [] in slice_get l n) ≡ Some h → HasRoom (feeds_of p h.instrument) h.places
+    by n h e = absurd (cc)
+
 pub placed-none : (t : Tallied) (hs : List HeldPoint) → hs ≡ [] → ArePlaced t hs
 placed-none t hs is = λ n h at. by n h (sym (ap (λ (l : List HeldPoint). slice_get l n) is) ∙ at)
   where

@@ -5,7 +5,7 @@ use Rattle.plan_kit.specs.Plans.{AllRise, AreFeeds, feeds_of, kind_of}
 use Rattle.plan_kit.specs.declared.feed.Feed.{Feed}
 use Rattle.plan_kit.specs.declared.instrument.Kind.{Kind}
 use Rattle.agg_kit.specs.Entries.{Entry}
-use Rattle.agg_kit.specs.Feeds.{AllHeld, after_feeds, first_out, whole_first}
+use Rattle.agg_kit.specs.Feeds.{AllHeld, after_feeds, early_feeds, first_out}
 use Rattle.agg_kit.specs.Measuring.{early_fault_of, fault_of, series_after, IsMeasured}
 use Rattle.agg_kit.specs.Refusals.{is_negative_for}
 use Rattle.agg_kit.specs.Sound.{AllSound}
@@ -13,7 +13,7 @@ use Rattle.agg_kit.specs.Tallies.{Points, Tallied}
 use Rattle.agg_kit.specs.declared.fault.TallyFault.{TallyFault}
 use Rattle.agg_kit.specs.declared.fault.TallyFault.TheVariants.{NoInstrument, Negative, NoMemory}
 use Rattle.agg_kit.proofs.Records.{sound-length, sound-applied, sound-either, rising-feeds, some-kind, on_ok, on_err_map, if_err}
-use Rattle.agg_kit.proofs.Refusals.{all-part, whole-part, into-gone, into-negative, into-points}
+use Rattle.agg_kit.proofs.Refusals.{all-part, early-part, into-gone, into-negative, into-points}
 use Rattle.agg_kit.proofs.Rounds.{applied-is}
 
 -- it is refused before its points are looked at
@@ -34,18 +34,18 @@ module _ {U : Type 0} (t : Tallied) (e : Entry) (fs : List Feed) (is : fs ≡ fe
     (there : is_none (kind_of t.plan e.instrument) ≡ false) (fine : is_negative_for (kind_of t.plan e.instrument) e.value ≡ false) (told : Result U TallyFault) (now : List Points)
     (value : OnOk told (now ≡ after_feeds t.plan fs e.attrs e.value t.series)) (unchanged : OnErr told (now ≡ t.series)) where
   pub fed-measured : OnOk told (first_out t.plan e.attrs e.value t.series fs ≡ None) → IfErr told (λ f. f ≢ NoMemory → first_out t.plan e.attrs e.value t.series fs ≡ Some f)
-      → IfErr told (λ f. f ≡ NoMemory → first_out t.plan e.attrs e.value t.series (whole_first fs) ≡ None) → (AllHeld t.plan fs e.attrs t.series → IfErr told (λ f. f ≢ NoMemory))
+      → IfErr told (λ f. f ≡ NoMemory → first_out t.plan e.attrs e.value t.series (early_feeds e.attrs fs) ≡ None) → (AllHeld t.plan fs e.attrs t.series → IfErr told (λ f. f ≢ NoMemory))
       → IsMeasured t (record t { series = now }) e told
   unfolding fault_of early_fault_of
   fed-measured ok err early held =
       let first = into-points t t e (λ gs. gs) fs refl is (all-part fs) fed there fine in
-      let whole = into-points t t e whole_first fs refl is (whole-part fs) fed there fine in
+      let before = into-points t t e (early_feeds e.attrs) fs refl is (early-part e.attrs fs) fed there fine in
       let long = sound-length t.plan.streams t.series sound in
       record {
         ok = on_ok _ _ told (λ none. first ∙ none) ok;
         value = on_ok _ _ told (λ so. (λ i. record t { series = (so ∙ applied-is t e fs is fed long) i })) value;
         err = if_err _ _ told (λ f some n. first ∙ some n) err;
-        no_memory = if_err _ _ told (λ f none n. whole ∙ none n) early;
+        no_memory = if_err _ _ told (λ f none n. before ∙ none n) early;
         held = λ all. held (subst (λ (gs : List Feed). AllHeld t.plan gs e.attrs t.series) (sym is) all);
         unchanged = on_err_map _ _ told (λ so. (λ i. record t { series = so i })) unchanged;
       }

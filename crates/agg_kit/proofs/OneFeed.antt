@@ -4,18 +4,17 @@ use Rattle.std.proofs.lemmas.List.{length-set}
 use Rattle.std.specs.Map.{keys_of, lookup}
 use Rattle.attr_kit.specs.declared.attr_set.AttrSet.{AttrSet}
 use Rattle.attr_kit.specs.Keeping.{kept}
-use Rattle.attr_kit.specs.declared.keep.Keep.{Keep}
 use Rattle.plan_kit.specs.Plans.{Planned, AreFeeds}
 use Rattle.plan_kit.specs.declared.feed.Feed.{Feed}
 use Rattle.agg_kit.specs.Feeding.{set_eq}
-use Rattle.agg_kit.specs.Feeds.{entries_of, shape_at, first_out, whole_first, AllHeld}
+use Rattle.agg_kit.specs.Feeds.{entries_of, shape_at, early_feeds, first_out, AllHeld}
 use Rattle.agg_kit.specs.FreshPoints.{payload_with, add_at}
 use Rattle.agg_kit.specs.Payloads.{is_out_of_range}
 use Rattle.agg_kit.specs.Sound.{AllSound}
 use Rattle.agg_kit.specs.Steps.{Stored, has_point, fed_set, step}
 use Rattle.agg_kit.specs.Tallies.{Points}
 use Rattle.agg_kit.specs.declared.fault.TallyFault.TheVariants as faults
-use Rattle.agg_kit.proofs.Records.{entries-read, first-here, first-rest, found-at, leaves-here, new-fits, new-gone, same_entries, set-here, unmoved, whole-rest}
+use Rattle.agg_kit.proofs.Records.{entries-read, first-here, first-rest, found-at, leaves-here, new-fits, new-gone, same_entries, set-here, unmoved, early-rest}
 use Rattle.agg_kit.proofs.Steps.{absent, add_under-has_point, range-there, within-has_point}
 
 -- the first feed of all, whose stream is read as `old`
@@ -48,17 +47,16 @@ module _ (p : Planned) (a : AttrSet) (v : ℤ) (ss : List Stored) (feed : Feed) 
       pub absent-first : FitsSigned w64 v → (q : Stored) → q.entries ≡ old.entries → first_out p a v (entries_of ss) all ≡ first_out p a v (entries_of (set ss feed.stream q)) rest
       absent-first fit q same = first-rest p a v ss old q feed rest all is fits.0 was same (new-fits (shape_at p feed.stream) old.entries reached v fit gone)
 
-      pub absent-whole : FitsSigned w64 v → (q : Stored) → q.entries ≡ old.entries → first_out p a v (entries_of (set ss feed.stream q)) (whole_first rest) ≡ None
-          → first_out p a v (entries_of ss) (whole_first all) ≡ None
-      absent-whole fit q same = whole-rest p a v ss old q feed rest all is fits.0 was same (new-fits (shape_at p feed.stream) old.entries reached v fit gone)
+      pub absent-early : FitsSigned w64 v → (q : Stored) → q.entries ≡ old.entries → first_out p a v (entries_of (set ss feed.stream q)) (early_feeds a rest) ≡ None
+          → first_out p a v (entries_of ss) (early_feeds a all) ≡ None
+      absent-early fit q same = early-rest p a v ss old q feed rest all is fits.0 was same (new-fits (shape_at p feed.stream) old.entries reached v fit gone)
 
       -- and not all points are there
       pub absent-held : AllHeld p all a (entries_of ss) → ⊥
       absent-held all-held =
           let all' : AllHeld p (feed ∷ rest) a (entries_of ss) = subst (λ (fs : List Feed). AllHeld p fs a (entries_of ss)) is all-held in
-          let here : has_point old.entries (fed_set p.limit old.entries a) ≡ true = subst (λ (es : Points). has_point es (fed_set p.limit es a) ≡ true) (entries-read ss feed.stream old fits.0 was) all'.1 in
-          let gone' : lookup (set_eq (fed_set p.limit old.entries a)) old.entries ≡ None = subst (λ (k : Keep). lookup (set_eq (fed_set p.limit old.entries (kept k a))) old.entries ≡ None) all'.0 gone in
-          new-gone old.entries (fed_set p.limit old.entries a) gone' here
+          let here : has_point old.entries reached ≡ true = subst (λ (es : Points). has_point es (fed_set p.limit es (kept feed.keep a)) ≡ true) (entries-read ss feed.stream old fits.0 was) all'.1 in
+          new-gone old.entries reached gone here
 
     -- the point of the set is there
     module _ (i : ℕ) (there : found ≡ Some i) where
@@ -81,9 +79,9 @@ module _ (p : Planned) (a : AttrSet) (v : ℤ) (ss : List Stored) (feed : Feed) 
       pub there-first : is_out_of_range (payload_with (shape_at p feed.stream) old.entries i v) ≡ false → first_out p a v (entries_of ss) all ≡ first_out p a v (entries_of (set ss feed.stream old)) rest
       there-first fine = first-rest p a v ss old old feed rest all is fits.0 was refl (range-there (shape_at p feed.stream) old.entries reached v i false at fine)
 
-      pub there-whole : is_out_of_range (payload_with (shape_at p feed.stream) old.entries i v) ≡ false → first_out p a v (entries_of (set ss feed.stream old)) (whole_first rest) ≡ None
-          → first_out p a v (entries_of ss) (whole_first all) ≡ None
-      there-whole fine = whole-rest p a v ss old old feed rest all is fits.0 was refl (range-there (shape_at p feed.stream) old.entries reached v i false at fine)
+      pub there-early : is_out_of_range (payload_with (shape_at p feed.stream) old.entries i v) ≡ false → first_out p a v (entries_of (set ss feed.stream old)) (early_feeds a rest) ≡ None
+          → first_out p a v (entries_of ss) (early_feeds a all) ≡ None
+      there-early fine = early-rest p a v ss old old feed rest all is fits.0 was refl (range-there (shape_at p feed.stream) old.entries reached v i false at fine)
 
 -- the same where the feeds that follow have taken their recording, and the stream is read once more
 module _ (p : Planned) (a : AttrSet) (v : ℤ) (ss ns : List Stored) (feed : Feed) (rest : List Feed) (fits : AreFeeds (length ss) (feed ∷ rest)) (q now : Stored)

@@ -7,7 +7,7 @@ use Rattle.std.proofs.lemmas.List.{map-set, length-map}
 use Rattle.attr_kit.specs.declared.attr_set.AttrSet.{AttrSet}
 use Rattle.attr_kit.specs.Keeping.{kept}
 use Rattle.attr_kit.specs.declared.keep.Keep.{Keep}
-use Rattle.attr_kit.specs.declared.keep.Keep.TheVariants.{All, Only}
+use Rattle.attr_kit.specs.declared.keep.Keep.TheVariants.{All}
 use Rattle.point_kit.specs.declared.payload.Payload.{Payload}
 use Rattle.point_kit.specs.declared.shape.Shape.{Shape}
 use Rattle.point_kit.specs.declared.stream.Stream.{Stream}
@@ -15,7 +15,7 @@ use Rattle.plan_kit.specs.Plans.{Planned, feeds_of, AreFeeds, AllRise, rises, on
 use Rattle.plan_kit.specs.declared.instrument.Kind.{Kind}
 use Rattle.plan_kit.specs.declared.feed.Feed.{Feed}
 use Rattle.agg_kit.specs.Feeding.{set_eq}
-use Rattle.agg_kit.specs.Feeds.{entries_of, series_at, shape_at, leaves_range, first_out, after_feeds, keeps_all, whole_first}
+use Rattle.agg_kit.specs.Feeds.{entries_of, series_at, shape_at, leaves_range, first_out, after_feeds, early_feeds, is_copied}
 use Rattle.agg_kit.specs.Held.{whole_feed}
 use Rattle.agg_kit.specs.Kept.{AreLone}
 use Rattle.agg_kit.specs.Payloads.{is_out_of_range}
@@ -116,29 +116,25 @@ pub first-rest : (p : Planned) (a : AttrSet) (v : ℤ) (ss : List Stored) (old q
 first-rest p a v ss old q f fs all is l was same ok =
     first-kept p a v ss old f fs all is l was ok ∙ ap (λ (es : List Points). first_out p a v es fs) (sym (same_entries ss f.stream q old was same))
 
--- the same of the feeds before the first that keeps a list
-pub whole-kept : (p : Planned) (a : AttrSet) (v : ℤ) (ss : List Stored) (old : Stored) (f : Feed) (fs all : List Feed) → all ≡ f ∷ fs → f.stream < length ss → old ≡ get_or ss f.stream old
+-- the same of the feeds before the first that copies what it keeps
+pub early-kept : (p : Planned) (a : AttrSet) (v : ℤ) (ss : List Stored) (old : Stored) (f : Feed) (fs all : List Feed) → all ≡ f ∷ fs → f.stream < length ss → old ≡ get_or ss f.stream old
     → is_out_of_range (payload_after (shape_at p f.stream) old.entries (fed_set p.limit old.entries (kept f.keep a)) v) ≡ false
-    → first_out p a v (entries_of ss) (whole_first fs) ≡ None → first_out p a v (entries_of ss) (whole_first all) ≡ None
-whole-kept p a v ss old f fs all is l was ok h = ap (λ (gs : List Feed). first_out p a v (entries_of ss) (whole_first gs)) is ∙ by (keeps_all f.keep)
+    → first_out p a v (entries_of ss) (early_feeds a fs) ≡ None → first_out p a v (entries_of ss) (early_feeds a all) ≡ None
+early-kept p a v ss old f fs all is l was ok h = ap (λ (gs : List Feed). first_out p a v (entries_of ss) (early_feeds a gs)) is ∙ by (is_copied f.keep a)
   where
-    by : (b : Bool) → first_out p a v (entries_of ss) (cond b (f ∷ whole_first fs) []) ≡ None
-    by true = first-later p a v (entries_of ss) f (whole_first fs) (leaves-here p f a v ss old l was ∙ ok) ∙ h
-    by false = refl
+    by : (b : Bool) → first_out p a v (entries_of ss) (cond b [] (f ∷ early_feeds a fs)) ≡ None
+    by true = refl
+    by false = first-later p a v (entries_of ss) f (early_feeds a fs) (leaves-here p f a v ss old l was ∙ ok) ∙ h
 
-pub whole-rest : (p : Planned) (a : AttrSet) (v : ℤ) (ss : List Stored) (old q : Stored) (f : Feed) (fs all : List Feed) → all ≡ f ∷ fs → f.stream < length ss → old ≡ get_or ss f.stream old → q.entries ≡ old.entries
+pub early-rest : (p : Planned) (a : AttrSet) (v : ℤ) (ss : List Stored) (old q : Stored) (f : Feed) (fs all : List Feed) → all ≡ f ∷ fs → f.stream < length ss → old ≡ get_or ss f.stream old → q.entries ≡ old.entries
     → is_out_of_range (payload_after (shape_at p f.stream) old.entries (fed_set p.limit old.entries (kept f.keep a)) v) ≡ false
-    → first_out p a v (entries_of (set ss f.stream q)) (whole_first fs) ≡ None → first_out p a v (entries_of ss) (whole_first all) ≡ None
-whole-rest p a v ss old q f fs all is l was same ok h =
-    whole-kept p a v ss old f fs all is l was ok (ap (λ (es : List Points). first_out p a v es (whole_first fs)) (sym (same_entries ss f.stream q old was same)) ∙ h)
+    → first_out p a v (entries_of (set ss f.stream q)) (early_feeds a fs) ≡ None → first_out p a v (entries_of ss) (early_feeds a all) ≡ None
+early-rest p a v ss old q f fs all is l was same ok h =
+    early-kept p a v ss old f fs all is l was ok (ap (λ (es : List Points). first_out p a v es (early_feeds a fs)) (sym (same_entries ss f.stream q old was same)) ∙ h)
 
-listed : (k : Keep) → (k ≢ All) → keeps_all k ≡ false
-listed All h = absurd (h refl)
-listed (Only l) h = refl
-
-pub whole-listed : (p : Planned) (a : AttrSet) (v : ℤ) (ss : List Points) (f : Feed) (fs all : List Feed) → all ≡ f ∷ fs → (f.keep ≢ All) → first_out p a v ss (whole_first all) ≡ None
-whole-listed p a v ss f fs all is n =
-    ap (λ (gs : List Feed). first_out p a v ss (whole_first gs)) is ∙ ap (λ b. first_out p a v ss (cond b (f ∷ whole_first fs) [])) (listed f.keep n)
+pub early-copied : (p : Planned) (a : AttrSet) (v : ℤ) (ss : List Points) (f : Feed) (fs all : List Feed) → all ≡ f ∷ fs → is_copied f.keep a ≡ true → first_out p a v ss (early_feeds a all) ≡ None
+early-copied p a v ss f fs all is copied =
+    ap (λ (gs : List Feed). first_out p a v ss (early_feeds a gs)) is ∙ ap (λ b. first_out p a v ss (cond b [] (f ∷ early_feeds a fs))) copied
 
 -- where the point is that a feed reaches, by the limit and the set that it was looked for under
 pub found-at : (p : Planned) (b : AttrSet) (es : Points) (limit : ℕ) (set : AttrSet) (found at : Option ℕ) → limit ≡ p.limit → set ≡ b → found ≡ at

@@ -11,7 +11,7 @@ use Rattle.plan_kit.specs.Plans.{Planned, Source, feeds_of, kind_of, stream_of, 
 use Rattle.plan_kit.specs.declared.feed.Feed.{Feed}
 use Rattle.agg_kit.specs.Entries.{Entry, Arrivals, arrivals_from, arrivals}
 use Rattle.agg_kit.specs.Feeding.{set_eq, overflow_set, is_own, has_set, own_sets, goes_to, placements, fed}
-use Rattle.agg_kit.specs.Feeds.{series_at, leaves_range, first_out, keeps_all, whole_first, AllWhole}
+use Rattle.agg_kit.specs.Feeds.{series_at, leaves_range, first_out, is_copied, early_feeds, NoneCopies}
 use Rattle.agg_kit.specs.Measuring.{points_after, series_after, after_measure, counted_under, is_over, fault_into, fault_of, early_fault_of}
 use Rattle.agg_kit.specs.Payloads.{payload_of, is_out_of_range}
 use Rattle.agg_kit.specs.Refusals.{is_negative_for, overflows, first_refusal}
@@ -123,15 +123,15 @@ first_refusal-is t h e s =
     ap (λ (q : Feed → Bool). first (when (is_none (kind_of t.plan e.instrument)) faults.NoInstrument ∷ when (is_negative_for (kind_of t.plan e.instrument) e.value) faults.Negative ∷ option_map (λ (f : Feed). faults.Overflow f.stream) (find q (feeds_of t.plan e.instrument)) ∷ []))
     (λ i f. over-is (after_measure t e) k e.attrs f (stands-push t h e s) i)
 
--- all feeds where each keeps all keys
-whole_first-whole : (fs : List Feed) → AllWhole fs → whole_first fs ≡ fs
-whole_first-whole [] w = refl
-whole_first-whole (f ∷ fs) w = ap (λ k. cond (keeps_all k) (f ∷ whole_first fs) []) w.0 ∙ ap (λ l. f ∷ l) (whole_first-whole fs w.1)
+-- all feeds where none copies
+early-all : (a : AttrSet) (fs : List Feed) → NoneCopies a fs → early_feeds a fs ≡ fs
+early-all a [] n = refl
+early-all a (f ∷ fs) n = ap (λ b. cond b [] (f ∷ early_feeds a fs)) n.0 ∙ ap (λ l. f ∷ l) (early-all a fs n.1)
 
--- where every feed keeps all keys, nothing is looked for after memory is wanted
-pub early-is : (t : Tallied) (e : Entry) → AllWhole (feeds_of t.plan e.instrument) → early_fault_of t e ≡ fault_of t e
+-- where no feed copies, nothing is looked for after memory is wanted
+pub early-is : (t : Tallied) (e : Entry) → NoneCopies e.attrs (feeds_of t.plan e.instrument) → early_fault_of t e ≡ fault_of t e
 unfolding fault_of early_fault_of
-early-is t e whole = ap (fault_into t e) (whole_first-whole (feeds_of t.plan e.instrument) whole)
+early-is t e none = ap (fault_into t e) (early-all e.attrs (feeds_of t.plan e.instrument) none)
 
 -- ---- by the points of one feed's stream before the recording
 
@@ -176,13 +176,13 @@ IsPart some fs = (P : Feed → Type 0) → Every P fs → Every P (some fs)
 pub all-part : (fs : List Feed) → IsPart (λ gs. gs) fs
 all-part fs P h = h
 
-pub whole-part : (fs : List Feed) → IsPart whole_first fs
-whole-part [] P h = tt
-whole-part (f ∷ fs) P h = by (keeps_all f.keep) (whole-part fs P h.1)
+pub early-part : (a : AttrSet) (fs : List Feed) → IsPart (early_feeds a) fs
+early-part a [] P h = tt
+early-part a (f ∷ fs) P h = by (is_copied f.keep a) (early-part a fs P h.1)
   where
-    by : (b : Bool) → Every P (whole_first fs) → Every P (cond b (f ∷ whole_first fs) [])
-    by true rest = (h.0, rest)
-    by false rest = tt
+    by : (b : Bool) → Every P (early_feeds a fs) → Every P (cond b [] (f ∷ early_feeds a fs))
+    by true rest = tt
+    by false rest = (h.0, rest)
 
 first-out : (t : Tallied) (e : Entry) (some : List Feed → List Feed) → AreFeeds (length t.plan.streams) (feeds_of t.plan e.instrument) → IsPart some (feeds_of t.plan e.instrument)
     → option_map (λ (f : Feed). faults.Overflow f.stream) (find (is_over (after_measure t e) e.attrs) (some (feeds_of t.plan e.instrument))) ≡ first_out t.plan e.attrs e.value t.series (some (feeds_of t.plan e.instrument))

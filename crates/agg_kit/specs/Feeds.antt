@@ -44,28 +44,34 @@ after_feeds p (f ∷ fs) a v ss =
     let after = after_feeds p fs a v ss in
     slice_set after f.stream (step (shape_at p f.stream) p.limit (series_at after f.stream) (kept f.keep a) v)
 
--- whether all keys are kept
-abbrev pub keeps_all : Keep → Bool
-keeps_all All = true
-keeps_all (Only list) = false
+-- whether a set has a pair
+abbrev pub has_pairs : AttrSet → Bool
+has_pairs [] = false
+has_pairs (p ∷ ps) = true
 
--- the feeds before the first that keeps a list of keys
-abbrev pub whole_first : List Feed → List Feed
-whole_first [] = []
-whole_first (f ∷ fs) = cond (keeps_all f.keep) (f ∷ whole_first fs) []
+-- whether what is kept of a set is copied, which takes memory: the set has a key of a list
+abbrev pub is_copied : Keep → AttrSet → Bool
+is_copied All a = false
+is_copied (Only list) a = has_pairs (kept (Only list) a)
 
--- each feed keeps all keys
-abbrev pub AllWhole : List Feed → Type 0
-AllWhole [] = Unit {0}
-AllWhole (f ∷ fs) = (f.keep ≡ All) × AllWhole fs
+-- the feeds before the first that copies what it keeps of a set
+abbrev pub early_feeds : AttrSet → List Feed → List Feed
+early_feeds a [] = []
+early_feeds a (f ∷ fs) = cond (is_copied f.keep a) [] (f ∷ early_feeds a fs)
 
--- each feed keeps all keys, and its stream has the point that the set feeds
+-- no feed copies what it keeps of a set: it keeps all keys, or none that the set has
+abbrev pub NoneCopies : AttrSet → List Feed → Type 0
+NoneCopies a [] = Unit {0}
+NoneCopies a (f ∷ fs) = (is_copied f.keep a ≡ false) × NoneCopies a fs
+
+-- no feed copies what it keeps of a set, and the stream of each has the point that this feeds
 abbrev pub AllHeld : Planned → List Feed → AttrSet → List Points → Type 0
 AllHeld p [] a ss = Unit {0}
 AllHeld p (f ∷ fs) a ss =
-    (f.keep ≡ All) × (has_point (series_at ss f.stream) (fed_set p.limit (series_at ss f.stream) a) ≡ true) × AllHeld p fs a ss
+    let es = series_at ss f.stream in
+    (is_copied f.keep a ≡ false) × (has_point es (fed_set p.limit es (kept f.keep a)) ≡ true) × AllHeld p fs a ss
 
--- no recording like this one takes memory: each feed of its instrument keeps all keys, and its stream has the point
+-- no recording like this one takes memory: no feed of its instrument copies what it keeps of the set, and the stream of each has the point
 abbrev pub IsHeld : Tallied → Entry → Type 0
 IsHeld t e = AllHeld t.plan (feeds_of t.plan e.instrument) e.attrs t.series
 
@@ -78,7 +84,7 @@ abbrev pub out_at : Planned → AttrSet → ℤ → List Stored → List Feed �
 out_at p a v ss fs = first_out p a v (entries_of ss) fs
 
 abbrev pub early_out_at : Planned → AttrSet → ℤ → List Stored → List Feed → Option TallyFault
-early_out_at p a v ss fs = out_at p a v ss (whole_first fs)
+early_out_at p a v ss fs = out_at p a v ss (early_feeds a fs)
 
 abbrev pub AreHeld : Planned → List Feed → AttrSet → List Stored → Type 0
 AreHeld p fs a ss = AllHeld p fs a (entries_of ss)

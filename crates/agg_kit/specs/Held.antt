@@ -1,5 +1,5 @@
 -- Held points: an instrument and a set, with the places where their values go.
-use Rattle.std.specs.Prelude.{◌≡◌, ◌&&◌, ℕ, ℤ, pos, int_lt, None, IfSome, false, List, [], ◌∷◌, ◌⊎◌, Option, Some, is_none, length, map, position, slice_get}
+use Rattle.std.specs.Prelude.{◌≡◌, ◌≤◌, ◌&&◌, ℕ, ℤ, pos, int_lt, None, IfSome, false, List, [], ◌∷◌, ◌⊎◌, Option, Some, is_none, length, map, position, slice_get, vec_capacity}
 use Rattle.std.specs.Map.{keys_of}
 use Rattle.attr_kit.specs.declared.attr_set.AttrSet.{AttrSet}
 use Rattle.attr_kit.specs.Keeping.{kept}
@@ -72,14 +72,26 @@ AreOf t i a k = IsPlaceless k ⊎ IsPlaced t.plan t.series i a k
 abbrev pub ArePlaced : Tallied → List HeldPoint → Type 0
 ArePlaced t hs = (n : ℕ) (h : HeldPoint) → slice_get hs n ≡ Some h → AreOf t h.instrument h.attrs h.places
 
+-- there is room for a place of each of these feeds, if not the short way leads to the points of the only one
+abbrev pub HasRoom : List Feed → Places → Type 0
+HasRoom fs k = ((m : ℕ) × (fs ≡ lone_feed m)) ⊎ (length fs ≤ vec_capacity k.each)
+
+-- so it is of each that is held under a plan
+abbrev pub HaveRoom : Planned → List HeldPoint → Type 0
+HaveRoom p hs = (n : ℕ) (h : HeldPoint) → slice_get hs n ≡ Some h → HasRoom (feeds_of p h.instrument) h.places
+
 abbrev pub HasInstrument : Tallied → ℕ → Type 0
 HasInstrument t i = is_none (kind_of t.plan i) ≡ false
 
--- no recording at the n-th held point takes memory: each feed of its instrument keeps all keys, and its stream has the point
+-- no recording at the n-th held point takes memory: no feed of its instrument copies what it keeps of the set, and the stream of each has the point
 abbrev pub IsHeldAt : Tallied → ℕ → Type 0
 IsHeldAt t n = IfSome (slice_get t.held n) (λ h. AllHeld t.plan (feeds_of t.plan h.0) h.1 t.series)
 
 -- ---- of series in memory
+
+-- where the point stands to which a feed brings values of a set
+abbrev pub place_at : Planned → AttrSet → List Stored → Feed → Option ℕ
+place_at p a ss f = place_of p.limit (series_at (entries_of ss) f.stream) (kept f.keep a)
 
 abbrev pub StandAt : Planned → List Feed → List ℕ → AttrSet → List Stored → Type 0
 StandAt p fs is a ss = AreAt p fs is a (entries_of ss)

@@ -10,7 +10,7 @@ use Rattle.plan_kit.specs.Plans.{Planned, feeds_of, kind_of, stream_of}
 use Rattle.plan_kit.specs.declared.feed.Feed.{Feed}
 use Rattle.agg_kit.specs.Entries.{Entry, Arrivals, arrivals_from, entry_of}
 use Rattle.agg_kit.specs.Feeding.{overflow_set}
-use Rattle.agg_kit.specs.Feeds.{IsHeld, series_at, whole_first}
+use Rattle.agg_kit.specs.Feeds.{IsHeld, early_feeds, series_at}
 use Rattle.agg_kit.specs.Payloads.{is_out_of_range}
 use Rattle.agg_kit.specs.Refusals.{is_negative_for}
 use Rattle.agg_kit.specs.Rounds.{round}
@@ -62,9 +62,9 @@ fault_into t e fs =
 unfoldable pub fault_of : Tallied → Entry → Option TallyFault
 fault_of t e = fault_into t e (feeds_of t.plan e.instrument)
 
--- the same of the feeds before the first that keeps a list of keys: what is looked for before memory is wanted
+-- the same of the feeds before the first that copies what it keeps of the set: what is looked for before memory is wanted
 unfoldable pub early_fault_of : Tallied → Entry → Option TallyFault
-early_fault_of t e = fault_into t e (whole_first (feeds_of t.plan e.instrument))
+early_fault_of t e = fault_into t e (early_feeds e.attrs (feeds_of t.plan e.instrument))
 
 -- what a tally, which is s then, answers to a recording
 pub record IsMeasured {U : Type 0} (t s : Tallied) (e : Entry) (told : Result U TallyFault) : Type 0 where

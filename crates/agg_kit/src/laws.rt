@@ -2,7 +2,7 @@
 ghost use Rattle.std.specs.Prelude.{◌≡◌, ◌++◌, ◌∷◌, [], List};
 ghost use Rattle.plan_kit.specs.Plans.{feeds_of};
 ghost use Rattle.agg_kit.specs.Entries.{Entry};
-ghost use Rattle.agg_kit.specs.Feeds.{AllWhole};
+ghost use Rattle.agg_kit.specs.Feeds.{NoneCopies};
 ghost use Rattle.agg_kit.specs.Laws.{SumsAddUp, CountsAddUp, IsLimited, OwnPointsStay, FedGrows, PlacesStay, PlacesStayHeld, RoundsHaveFed};
 ghost use Rattle.agg_kit.specs.Measuring.{after_measure, early_fault_of, emptied_tally, fault_of};
 ghost use Rattle.agg_kit.specs.Refusals.{first_refusal};
@@ -10,13 +10,13 @@ ghost use Rattle.agg_kit.specs.Rounds.{StandsFor};
 ghost use Rattle.agg_kit.specs.Tallies.{Tallied};
 
 /// The steps of a tally are recordings: one without points stands for none of them, one that stands for a list stands after
-/// a recording for the list followed by it, and refuses what is refused after the list. Where every feed keeps all keys,
-/// nothing is looked for after memory is wanted.
+/// a recording for the list followed by it, and refuses what is refused after the list. Where no feed copies
+/// what it keeps of the set, nothing is looked for after memory is wanted: it keeps all keys, or none that the set has.
 pub fn steps_are_recordings()
     ensures empty { (t : Tallied) → StandsFor (emptied_tally t) [] }
     ensures stands { (t : Tallied) (h : List Entry) (e : Entry) → StandsFor t h → StandsFor (after_measure t e) (h ++ e ∷ []) }
     ensures refused { (t : Tallied) (h : List Entry) (e : Entry) → StandsFor t h → fault_of t e ≡ first_refusal t.plan h e }
-    ensures whole { (t : Tallied) (e : Entry) → AllWhole (feeds_of t.plan e.instrument) → early_fault_of t e ≡ fault_of t e }
+    ensures whole { (t : Tallied) (e : Entry) → NoneCopies e.attrs (feeds_of t.plan e.instrument) → early_fault_of t e ≡ fault_of t e }
 {}
 
 /// What is known of the places of an instrument with a set stays true of a tally after any recording, by a set or at a held point:

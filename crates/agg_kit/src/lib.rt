@@ -7,8 +7,8 @@
 //! - A [`TallyFault`] says why a value is refused: no such instrument, a value that the kind refuses, a sum that would leave
 //!   its range, or want of memory. A refused value is recorded nowhere.
 //! - A held point is a number of a tally: `Tally::hold` gives one to an instrument and a set, and `Tally::measure_held` records
-//!   there as `measure` does. From the first value on no set is looked up, and no memory is taken where every feed keeps all keys.
-//!   Numbers outlive a restart.
+//!   there as `measure` does. From the first value on no set is looked up, and no memory is taken where no feed copies what it keeps of
+//!   the set: it keeps all keys, or none that the set has. Numbers outlive a restart.
 //! - [`Places`] are for crates that take logs of recordings in: `Tally::measure_at` looks each set of a log up once.
 //!
 //! A caller (`crates/uses/src/holding.rt`), over the writer that has the tally:

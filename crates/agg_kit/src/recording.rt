@@ -1,11 +1,10 @@
 //! How a recording goes into the streams of its feeds.
-ghost use Rattle.std.specs.Prelude.{◌≡◌, ◌≢◌, ◌<◌, ℕ, length, slice_get, Some, None, IfOk, IfErr, IfSome, OnOk, OnErr, IsTrue};
+ghost use Rattle.std.specs.Prelude.{◌≡◌, ◌≢◌, ◌<◌, ℕ, true, length, slice_get, Some, None, IfOk, IfErr, IfSome, OnOk, OnErr, IsTrue};
 ghost use Rattle.std.specs.Option.{unwrap_or};
 ghost use Rattle.plan_kit.specs.Plans.{is_proper, AreFeeds, lacks};
 ghost use Rattle.attr_kit.specs.Keeping.{kept};
-ghost use Rattle.attr_kit.specs.declared.keep.Keep.TheVariants as keeps;
 ghost use Rattle.agg_kit.specs.Feeding.{overflow_set};
-ghost use Rattle.agg_kit.specs.Feeds.{series_at, entries_of, shape_at, early_out_at, out_at, points_with, AreHeld};
+ghost use Rattle.agg_kit.specs.Feeds.{series_at, entries_of, shape_at, early_out_at, is_copied, out_at, points_with, AreHeld};
 ghost use Rattle.agg_kit.specs.Held.{lone_feed, place_of, KnowPlaces, MayGive, StandAt};
 ghost use Rattle.agg_kit.specs.Sound.{AllSound};
 ghost use Rattle.agg_kit.specs.declared.fault.TallyFault.TheVariants as faults;
@@ -33,10 +32,10 @@ fn shape_of(plan: &Plan, stream: usize) -> &Shape
     &plan.stream(stream).unwrap().shape
 }
 
-/// The set that a feed keeps of the attributes, or none where it keeps them all: they are not copied.
+/// The set that a feed keeps of the attributes, or none where it keeps them all: they are not copied. Takes no memory where it keeps none.
 pub(crate) fn restricted(attrs: &AttrSet, keep: &Keep) -> Result<Option<AttrSet>, NoMemory>
     ensures value { IfOk result (λ set. unwrap_or set attrs.now ≡ kept keep.now attrs.now) }
-    ensures no_memory { OnErr result (keep.now ≢ keeps.All) }
+    ensures no_memory { OnErr result (is_copied keep.now attrs.now ≡ true) }
 {
     match keep {
         Keep::All => Ok(None),

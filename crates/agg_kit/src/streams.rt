@@ -1,5 +1,5 @@
 //! The streams of a plan with their points.
-ghost use Rattle.std.specs.Prelude.{◌≡◌, ◌&&◌, [], ℕ, pos, int_lt, length, replicate, slice_get, Some, IfOk, IfSome, OnErr, OnOk};
+ghost use Rattle.std.specs.Prelude.{◌≡◌, ◌≤◌, ◌&&◌, [], ℕ, pos, int_lt, length, replicate, slice_get, Some, IfOk, IfSome, OnErr, OnOk, vec_capacity};
 ghost use Rattle.std.specs.Option.{option_map};
 ghost use Rattle.agg_kit.specs.Entries.{entry_of};
 ghost use Rattle.agg_kit.specs.Feeding.{overflow_set};
@@ -10,7 +10,7 @@ ghost use Rattle.agg_kit.specs.Measuring.{emptied_tally, empty_tally, IsMeasured
 ghost use Rattle.agg_kit.specs.Sound.{AllSound};
 ghost use Rattle.plan_kit.specs.Plans.{feeds_of, AreFeeds};
 
-use crate::held::{OwnPlace, only_rises, places_of};
+use crate::held::{OwnPlace, fill_places, lone_stream, only_rises};
 use crate::recording::{add_own, record};
 use crate::series::Series;
 use crate::{Places, TallyFault};
@@ -70,6 +70,7 @@ impl Streams {
         requires { AreOf self.old instrument attrs.now places.old }
         ensures measured { IsMeasured self.old self.new (entry_of instrument attrs.now value) result }
         ensures places { AreOf self.new instrument attrs.now places.new }
+        ensures room { vec_capacity places.old.each ≤ vec_capacity places.new.each }
     {
         if let Some(own) = places.own {
             return self.measure_own(own, instrument, attrs, value);
@@ -89,6 +90,7 @@ impl Streams {
         requires { AreOf self.old instrument attrs.now places.old }
         ensures measured { IsMeasured self.old self.new (entry_of instrument attrs.now value) result }
         ensures places { AreOf self.new instrument attrs.now places.new }
+        ensures room { vec_capacity places.old.each ≤ vec_capacity places.new.each }
     {
         self.find_places(places, instrument, attrs);
         if let Some(own) = places.own {
@@ -100,14 +102,30 @@ impl Streams {
         told
     }
 
-    // Looks places up of which nothing is known.
+    // Looks places up of which nothing is known, as far as the points are there and memory is.
     fn find_places(&self, places: &mut Places, instrument: usize, attrs: &AttrSet)
         requires { AreOf self.now instrument attrs.now places.old }
-        ensures { AreOf self.now instrument attrs.now places.new }
+        ensures known { AreOf self.now instrument attrs.now places.new }
+        ensures room { vec_capacity places.old.each ≤ vec_capacity places.new.each }
     {
-        if places.each.is_empty() {
-            *places = self.places(instrument, attrs);
+        let Some(feeds) = self.plan.feeds(instrument) else {
+            return;
+        };
+        if !places.each.is_empty() {
+            return;
         }
+        if let Some(stream) = lone_stream(feeds) {
+            places.own = self.own_place(stream, instrument, attrs);
+            return;
+        }
+        fill_places(
+            &mut places.each,
+            &self.plan,
+            &self.overflow,
+            &self.series,
+            feeds,
+            attrs,
+        );
     }
 
     /// Records a value in the stream of every feed of the instrument, or in none. `places` are those of the feeds' points, or none.
@@ -164,43 +182,6 @@ impl Streams {
             attrs,
             value,
         )
-    }
-
-    // Where the values of an instrument and a set go, as far as the points are there and memory is.
-    fn places(&self, instrument: usize, attrs: &AttrSet) -> Places
-        ensures { AreOf self.now instrument attrs.now result }
-    {
-        let alloc = *self.series.allocator();
-        let Some(feeds) = self.plan.feeds(instrument) else {
-            return Places::unknown(alloc);
-        };
-        let Some(stream) = lone_at(&self.lone, instrument) else {
-            let each = self.places_each(feeds, attrs);
-            return Places { each, own: None };
-        };
-        Places {
-            each: Vec::new(alloc),
-            own: self.own_place(stream, instrument, attrs),
-        }
-    }
-
-    // Those of all feeds, or none where one of the points is not there or memory is refused.
-    fn places_each(&self, feeds: &[Feed], attrs: &AttrSet) -> Vec<usize>
-        requires { AreFeeds (length self.now.plan.streams) feeds.now }
-        ensures { AreKnown self.now.plan feeds.now result.items attrs.now self.now.series }
-    {
-        let alloc = *self.series.allocator();
-        match places_of(
-            alloc,
-            &self.plan,
-            &self.overflow,
-            &self.series,
-            feeds,
-            attrs,
-        ) {
-            Ok(places) => places,
-            Err(_no_memory) => Vec::new(alloc),
-        }
     }
 
     // The short way to a point in the stream of an instrument's one feed, which keeps all keys, if the point is there.
@@ -297,23 +278,7 @@ fn copy_series(series: &Vec<Series>) -> Result<Vec<Series>, NoMemory>
     Ok(copy)
 }
 
-// The stream of a feed that has no other beside it and keeps all keys.
-fn lone_stream(feeds: &[Feed]) -> Option<usize>
-    ensures { IfSome result (λ m. feeds.now ≡ lone_feed m) }
-{
-    let Some((feed, rest)) = feeds.split_first() else {
-        return None;
-    };
-    if !rest.is_empty() {
-        return None;
-    }
-    match &feed.keep {
-        Keep::All => Some(feed.stream),
-        Keep::Only(_) => None,
-    }
-}
-
-// That stream of each instrument that has one.
+// The stream of each instrument's one feed, which keeps all keys, if it is so.
 #[tactic(auto, using(crate::proofs::Records::lone_none, crate::proofs::Records::lone_push))]
 fn lone_streams(alloc: Global, plan: &Plan) -> Result<Vec<Option<usize>>, NoMemory>
     ensures { IfOk result (λ lone. AreLone plan.now lone.items) }

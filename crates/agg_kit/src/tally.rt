@@ -27,14 +27,14 @@ pub struct Tally {
 }
 
 impl Model for Tally {
-    ghost use Rattle.agg_kit.specs.Held.{held_of, ArePlaced};
+    ghost use Rattle.agg_kit.specs.Held.{held_of, ArePlaced, HaveRoom};
     ghost use Rattle.agg_kit.specs.Tallies.{Tallied};
 
     ghost Value = { Tallied };
 
     ghost view = { λ t. record t.streams { held = held_of t.held.items } };
 
-    ghost invariant = { λ t. ArePlaced t.streams t.held.items };
+    ghost invariant = { λ t. ArePlaced t.streams t.held.items × HaveRoom t.streams.plan t.held.items };
 }
 
 impl Tally {
@@ -61,9 +61,9 @@ impl Tally {
         ensures ok { OnOk result (fault_of self.old (entry_of instrument attrs.now value) ≡ None) }
         ensures value { OnOk result (self.new ≡ after_measure self.old (entry_of instrument attrs.now value)) }
         ensures err { IfErr result (λ f. f ≢ TallyFault.NoMemory → fault_of self.old (entry_of instrument attrs.now value) ≡ Some f) }
-        // Where a feed keeps a list of keys, what it keeps takes memory; the feeds before the first such feed are in range.
+        // A feed that keeps some keys of the set copies them, which takes memory; the feeds before the first such feed are in range.
         ensures no_memory { IfErr result (λ f. f ≡ faults.NoMemory → early_fault_of self.old (entry_of instrument attrs.now value) ≡ None) }
-        // Points that are there take no memory where every feed keeps all keys.
+        // Points that are there take no memory where no feed copies what it keeps: it keeps all keys, or none that the set has.
         ensures held { IsHeld self.old (entry_of instrument attrs.now value) → IfErr result (λ f. f ≢ TallyFault.NoMemory) }
         ensures unchanged { OnErr result (self.new ≡ self.old) }
     {
@@ -73,8 +73,8 @@ impl Tally {
     /// Holds an instrument and a set, so that `measure_held` records there by the number that this gives: how many were held before.
     /// Nothing is recorded, and no point appears before a value comes. What is held twice has two numbers.
     ///
-    /// Refuses, in this order, and leaves the tally as it was: `NoInstrument`, `NoMemory`. O(size of the attributes), whose copy stays
-    /// as long as the tally.
+    /// Refuses, in this order, and leaves the tally as it was: `NoInstrument`, `NoMemory`. O(size of the attributes and feeds of the
+    /// instrument). The copy of the attributes and room for a place at each feed stay as long as the tally.
     pub fn hold(&mut self, instrument: usize, attrs: &AttrSet) -> Result<usize, TallyFault>
         ensures number { IfOk result (λ n. n ≡ length self.old.held) }
         ensures value { OnOk result (self.new ≡ record self.old { held = self.old.held ++ (instrument, attrs.now) ∷ [] }) }
@@ -87,10 +87,11 @@ impl Tally {
             return Err(TallyFault::NoInstrument);
         };
         let number = self.held.len();
+        let alloc = *self.held.allocator();
         let point = HeldPoint {
             instrument,
             attrs: attrs.try_copy()?,
-            places: Places::unknown(*self.held.allocator()),
+            places: Places::unknown_of(alloc, self.streams.plan(), instrument)?,
         };
         match self.held.push(point) {
             Ok(()) => Ok(number),
@@ -103,8 +104,8 @@ impl Tally {
     /// Refuses, in this order, and leaves the tally as it was: `NoHeld` where there are not as many; what `measure` refuses.
     ///
     /// It looks up no set where it knows the places of the points: from the first value that is recorded here until the tally
-    /// begins anew, if memory for the places is not refused. O(feeds of the instrument) then. Where the points are there and every
-    /// feed keeps all keys no memory is wanted.
+    /// begins anew, but for a feed that copies what it keeps of the set if memory for that is refused. O(feeds of the instrument) then.
+    /// Where the points are there and no feed copies what it keeps no memory is wanted, be there one feed or many.
     // Inlined, since at one known place little is left to do.
     #[inline(always)]
     pub fn measure_held(&mut self, n: usize, value: i64) -> Result<(), TallyFault>
@@ -166,7 +167,7 @@ impl Tally {
     {
         Ok(Tally {
             streams: self.streams.try_copy()?,
-            held: copy_held(&self.held)?,
+            held: copy_held(self.streams.plan(), &self.held)?,
         })
     }
 

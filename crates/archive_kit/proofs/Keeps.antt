@@ -28,37 +28,34 @@ use Rattle.point_kit.specs.declared.stream.Stream.{Stream}
 use Rattle.point_kit.specs.declared.writer_id.WriterId.{WriterId}
 use Rattle.schedule_kit.specs.Members.{In}
 use Rattle.schedule_kit.proofs.Members.{filter-In, map-In}
-use Rattle.archive_kit.specs.Keeping.{AreInOrder, IsKeeping, Tell, is_named, kept_points, tells}
-use Rattle.archive_kit.specs.Readiness.{IsReady, items_of, names_then}
+use Rattle.archive_kit.specs.Keeping.{IsKeeping, Tell, is_named, kept_points, tells}
+use Rattle.archive_kit.specs.Named.{Name, NameList, has_either, has_name}
+use Rattle.archive_kit.specs.Readiness.{IsReady}
 use Rattle.archive_kit.specs.Showing.{hides, shown}
-use Rattle.archive_kit.specs.Stepping.{AreHidden, Drops, Joins, JoinsAndDrops, is_gone}
+use Rattle.archive_kit.specs.Stepping.{AreHidden, Drops, Joins, JoinsAndDrops, Skips, is_gone}
 use Rattle.archive_kit.specs.Tombstones.{is_tombstone, names_key, stream_eq, tombstones}
-use Rattle.archive_kit.specs.declared.dropping.Ready.{Ready}
-use Rattle.archive_kit.specs.declared.name.Name.{Name}
+use Rattle.archive_kit.specs.declared.dropping.Gone.{Gone}
 use Rattle.archive_kit.proofs.Left.{left_all, left_same}
 use Rattle.archive_kit.proofs.Lists.{member_any, not_true}
-use Rattle.archive_kit.proofs.Showing.{get-shown, namer}
+use Rattle.archive_kit.proofs.Showing.{get-shown, namer, skipped}
+use Rattle.archive_kit.proofs.Tombstones.{names_no_tombstone}
 use Rattle.archive_kit.proofs.Skipping.{hides_is, keeps_same, keeps_shown, named_joined, no_cell}
 
-module _ (old mid new : NodeModel) (brought : Points) (books : FinMap nat_cmp ℕ) (names : List Name) (r : Ready) (ready : IsReady names old.gateway.points brought r) (joins : Joins brought books old mid) (drops : Drops (is_gone r.gone.items) mid new) where
+module _ (old mid new : NodeModel) (brought : Points) (books : FinMap nat_cmp ℕ) (names : NameList) (gone : List Gone) (ready : IsReady names old.gateway.points brought gone) (joins : Joins brought books old mid) (drops : Drops (is_gone gone) mid new) where
   pub kept : new.gateway.points ≡ kept_points old.gateway.points brought
-  kept = drops.points ∙ ap (λ (m : Points). retain_keys m (λ k. not (is_gone r.gone.items k))) joins.points ∙ ready.goes
+  kept = drops.points ∙ ap (λ (m : Points). retain_keys m (λ k. not (is_gone gone k))) joins.points ∙ ready.goes
 
   pub stepped : JoinsAndDrops brought books old new
   stepped = record {
     between = mid;
-    gone = is_gone r.gone.items;
+    gone = is_gone gone;
     joins = joins;
     drops = drops;
-    hidden = subst (λ (m : Points). AreHidden (is_gone r.gone.items) m) (sym joins.points) ready.hidden;
+    hidden = subst (λ (m : Points). AreHidden (is_gone gone) m) (sym joins.points) ready.hidden;
   }
 
-  pub keeping : (stream : Stream) (now : List Name) → stream ≡ tombstones → now ≡ names_then names (items_of r.names) → IsKeeping stream now new.gateway.points
-  keeping stream now is named =
-      keeps_shown stream now (join_points old.gateway.points brought) new.gateway.points is
-      (subst (λ (l : List Name). AreInOrder l) (sym named) ready.in_order)
-      (subst (λ (l : List Name). Tell l (join_points old.gateway.points brought)) (sym named) ready.told)
-      kept
+  pub keeping : (stream : Stream) (now : List Name) → stream ≡ tombstones → ((w : WriterId) (s : ℕ) → has_name now w s ≡ has_either names w s) → IsKeeping stream now new.gateway.points
+  keeping stream now is named = keeps_shown stream now (join_points old.gateway.points brought) new.gateway.points is (λ w s. named w s ∙ ready.told w s) kept
 
 -- ---- an export that brings no tombstone, of an incarnation that none names
 
@@ -126,7 +123,24 @@ module _ (old : Points) (e : Export) (all_shown : shown names_key old ≡ old) (
 
   pub still_keeping : (stream : Stream) (names : List Name) (new : Points) → IsKeeping stream names old → new ≡ join_points old came → IsKeeping stream names new
   still_keeping stream names new was is =
-      keeps_shown stream names (join_points old came) new was.stream_is was.in_order (λ w s. was.told w s ∙ sym (named_as_before w s)) (is ∙ all_kept)
+      keeps_shown stream names (join_points old came) new was.stream_is (λ w s. was.told w s ∙ sym (named_as_before w s)) (is ∙ all_kept)
+
+-- ---- an export that brings no tombstone, of an incarnation that one names
+
+module _ (old : Points) (e : Export) (all_shown : shown names_key old ≡ old) (none : list_any (λ p. stream_eq tombstones p.stream) e.points ≡ false) (named : is_named old e.writer e.start ≡ true) where
+  late_hidden : (k : Key) (c : Cell Payload) → get (state (e ∷ [])) k ≡ Some c → hides names_key old k ≡ true
+  late_hidden k c there =
+      let p = of_export e k c there in
+      let plain : is_tombstone k ≡ false = not_true _ (λ t.
+      true≢false (sym (member_any (λ (x : ExportPoint). stream_eq tombstones x.stream) e.points p.0 p.1 (ap (λ (x : Key). is_tombstone x) (sym p.2) ∙ t)) ∙ none)) in
+      hides_is old k ∙ ap (λ b. not b && is_named old k.writer k.start) plain ∙ ap (λ (x : Key). is_named old x.writer x.start) p.2 ∙ named
+
+  pub late_kept : old ≡ kept_points old (state (e ∷ []))
+  late_kept = sym all_shown ∙ sym (skipped key_total key_exact names_key names_no_tombstone (join_cells payload_eq) old (state (e ∷ [])) late_hidden)
+
+pub late_skips : (e : Export) (old : NodeModel) → list_any (λ p. stream_eq tombstones p.stream) e.points ≡ false → is_named old.gateway.points e.writer e.start ≡ true
+    → shown names_key old.gateway.points ≡ old.gateway.points → Skips (state (e ∷ [])) old old
+late_skips e old none named all_shown = record { same = refl; hidden = late_hidden old.gateway.points e all_shown none named }
 
 -- what came, where nothing is dropped
 pub merely_joined : (brought : Points) (books : FinMap nat_cmp ℕ) (old new : NodeModel) → Joins brought books old new → JoinsAndDrops brought books old new
@@ -174,3 +188,7 @@ pub nothing_dropped : {T E : Type 0} (r : Result T E) (brought : Points) (books 
     → OnOk r (new.gateway.points ≡ join_points old.gateway.points brought) → OnOk r (Renumbers old new) → OnOk r (new.acked ≡ books) → OnOk r (JoinsAndDrops brought books old new)
 nothing_dropped (Ok v) brought books old new id points numbers acked = merely_joined brought books old new (record { id = id; points = points; numbers = numbers; acked = acked })
 nothing_dropped (Err e) brought books old new id points numbers acked = tt
+
+-- the same names, at the same points
+pub keeps_names : (stream : Stream) (names now : List Name) (points : Points) → now ≡ names → IsKeeping stream names points → IsKeeping stream now points
+keeps_names stream names now points same was = subst (λ (l : List Name). IsKeeping stream l points) (sym same) was

@@ -1,6 +1,6 @@
 -- What an archive keeps of its points as others are added: no two of one stream and set, each sound, tombstones apart.
 use mathlib.Core.Bool.{true≢false}
-use Rattle.std.proofs.Common.{◌≡◌, ◌<◌, ◌≤◌, ◌&&◌, ◌++◌, ℕ, zero, suc, Bool, true, false, not, cond, List, [], ◌∷◌, length, drop, Option, Some, None, arith, refl, sym, ap, subst, ◌∙◌}
+use Rattle.std.proofs.Common.{◌≡◌, ◌<◌, ◌≤◌, ◌&&◌, ◌||◌, ◌++◌, ℕ, zero, suc, Bool, true, false, not, cond, List, [], ◌∷◌, length, drop, Option, Some, None, arith, refl, sym, ap, subst, ◌∙◌}
 use Rattle.std.specs.Prelude.{IsTrue}
 use Rattle.std.proofs.lemmas.Bool.{and_parts, or_parts}
 use Rattle.std.proofs.lemmas.List.{length-append}
@@ -16,7 +16,8 @@ use Rattle.point_kit.specs.declared.export_point.ExportPoint.{ExportPoint}
 use Rattle.point_kit.specs.declared.key.Key.{Key}
 use Rattle.point_kit.specs.declared.payload.Payload.{Payload}
 use Rattle.point_kit.specs.declared.stream.Stream.{Stream}
-use Rattle.archive_kit.specs.Archive.{ArchiveState, AreKept, adopt_fault, early_faults, is_of_archive, late_faults, payload_held, points_held, time_of, tombstone_of, was_adopted}
+use Rattle.archive_kit.specs.Archive.{ArchiveState, AreKept, NameAdopted, adopt_fault, early_faults, is_of_archive, late_faults, payload_held, points_held, time_of, told, tombstone_of, was_adopted}
+use Rattle.archive_kit.specs.Named.{Name, has_name, is_name, name_of}
 use Rattle.archive_kit.specs.declared.adopt_fault.AdoptFault.{AdoptFault}
 use Rattle.archive_kit.specs.declared.adopt_fault.AdoptFault.TheVariants as faults
 use Rattle.archive_kit.proofs.Steps.{first-append}
@@ -24,7 +25,9 @@ use Rattle.attr_kit.proofs.Firsts.{none_of, when_none}
 use Rattle.attr_kit.specs.Refusing.{first}
 use Rattle.std.specs.Option.{is_some, option_or}
 use Rattle.point_kit.specs.declared.writer_id.WriterId.{WriterId}
-use Rattle.archive_kit.specs.Tombstones.{tombstones, is_tombstone, set_eq, stream_eq}
+use Rattle.archive_kit.specs.Tombstones.{tombstones, incarnation_attrs, is_tombstone, set_eq, stream_eq}
+use Rattle.attr_kit.specs.contracts.attr_set.AttrSetEq.TheImpl.Laws as set_laws
+use Rattle.std.proofs.lemmas.List.Folds.{list_any-append}
 use Rattle.archive_kit.specs.Totals.{is_gauge, plus_payload, add_total, add_totals}
 use Rattle.archive_kit.proofs.Payloads.{both_sound}
 
@@ -294,3 +297,35 @@ pub adoption_kept : (stream : Stream) (a : ArchiveState) → AreKept stream a.st
     → AreKept stream a.start a.exported (add_totals a.totals (points_held cells)) (a.tombstones ++ tombstone_of w start (time_of cells) ∷ []) a.sealed
 adoption_kept stream a kept w start cells ok new late =
     adopted_kept kept (points_held cells) (tombstone_of w start (time_of cells)) (late_fit a w start cells late) (held_plain cells ok) ((stream_laws.laws-law).refl tombstones) tt new
+
+-- what names tell was adopted
+pub adopted_alike : (names : List Name) (tombs : List ExportPoint) (w : WriterId) (start : ℕ) → IsTrue (list_all marked tombs) → NameAdopted names tombs
+    → has_name names w (told start) ≡ list_any (same_key (tombstone_of w start 0)) tombs
+adopted_alike names tombs w start all told_by = told_by w (told start) ∙ each tombs all
+  where
+    each : (ps : List ExportPoint) → IsTrue (list_all marked ps) → list_any (λ p. set_eq p.attrs (incarnation_attrs w (told start))) ps ≡ list_any (same_key (tombstone_of w start 0)) ps
+    each [] h = refl
+    each (p ∷ ps) h =
+        let parts = and_parts (marked p) (list_all marked ps) h in
+        λ i. (
+        (set_laws.laws-law).symm p.attrs (incarnation_attrs w (told start))
+        ∙ ap (λ b. b && set_eq (incarnation_attrs w (told start)) p.attrs) (sym parts.0)
+        ) i || each ps parts.1 i
+
+-- one more tombstone, of an incarnation whose name is told
+pub adopted_more : (names new : List Name) (tombs now : List ExportPoint) (w : WriterId) (start time : ℕ) → NameAdopted names tombs
+    → ((v : WriterId) (s : ℕ) → has_name new v s ≡ (has_name names v s || is_name v s (name_of w (told start))))
+    → now ≡ tombs ++ tombstone_of w start time ∷ [] → NameAdopted new now
+adopted_more names new tombs now w start time old more is v s =
+    more v s
+    ∙ ap (λ b. b || is_name v s (name_of w (told start))) (old v s)
+    ∙ ap (λ b. list_any tells tombs || b) (or_false _)
+    ∙ sym (list_any-append tells tombs (tombstone_of w start time ∷ []))
+    ∙ ap (list_any tells) (sym is)
+  where
+    tells : ExportPoint → Bool
+    tells p = set_eq p.attrs (incarnation_attrs v s)
+
+    or_false : (a : Bool) → a ≡ (a || false)
+    or_false true = refl
+    or_false false = refl

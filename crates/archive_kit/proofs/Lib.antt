@@ -9,7 +9,6 @@ pub mod Keeps
 pub mod Kept
 pub mod Left
 pub mod Lists
-pub mod Marks
 pub mod Naming
 pub mod Once
 pub mod Payloads

@@ -1,5 +1,5 @@
 -- What a keeper forgets is what is hidden.
-use Rattle.std.proofs.Common.{◌≡◌, ℕ, Bool, true, false, not, cond, ◌&&◌, ◌||◌, List, [], ◌∷◌, ◌++◌, length, nat_eq, arith, map, Option, Some, None, refl, sym, ap, subst, ◌∙◌}
+use Rattle.std.proofs.Common.{◌≡◌, ℕ, Bool, true, false, not, cond, ◌&&◌, ◌||◌, List, [], ◌∷◌, ◌++◌, length, nat_eq, arith, map, Option, Some, None, Result, Ok, Err, IfOk, refl, sym, ap, subst, ◌∙◌}
 use mathlib.Core.Bool.{true≢false}
 use Rattle.std.proofs.lemmas.List.Folds.{list_any-append}
 use Rattle.std.specs.Cmp.{Equal-is, eq_by_cmp_equiv}
@@ -24,12 +24,12 @@ use Rattle.point_kit.specs.declared.writer_id.WriterId.{WriterId}
 use Rattle.point_kit.proofs.OrderLaws.{key_total, key_exact}
 use Rattle.point_kit.proofs.StateLaws.{get-join_maps}
 use Rattle.schedule_kit.proofs.Members.{map-In}
-use Rattle.archive_kit.specs.Keeping.{is_held, is_name, is_named, is_of_any, has_name, kept_points, tells, Tell, IsKeeping, AreInOrder}
+use Rattle.archive_kit.specs.Keeping.{is_held, is_named, is_of_any, kept_points, tells, Tell, IsKeeping}
+use Rattle.archive_kit.specs.Named.{Name, has_name, is_empty}
 use Rattle.archive_kit.specs.Showing.{hides, shown}
 use Rattle.archive_kit.specs.Stepping.{AreHidden, is_gone}
 use Rattle.archive_kit.specs.Tombstones.{tombstones, incarnation_attrs, is_tombstone, names_key, set_eq, stream_eq}
 use Rattle.archive_kit.specs.declared.dropping.Gone.{Gone}
-use Rattle.archive_kit.specs.declared.name.Name.{Name}
 use Rattle.archive_kit.proofs.Left.{in_keys, left_same}
 use Rattle.archive_kit.proofs.Lists.{same_bool, member_any, not_true}
 use Rattle.archive_kit.proofs.Showing.{namer, hidden_by, shown-hides, shown_twice, get-shown}
@@ -138,28 +138,29 @@ held_there m k c e =
 
 -- ---- what goes is what is hidden
 
-module _ (old coming : Points) (names : List Name) (gone : List Gone) (fresh : Bool) (told : Tell names (join_points old coming))
-    (all_shown : shown names_key old ≡ old) (known : fresh ≡ false → Tell names old)
-    (gone_is : (k : Key) → is_of_any gone k ≡ (has_name names k.writer k.start && (is_held coming k || (fresh && is_held old k)))) where
+module _ (old coming : Points) (named : WriterId → ℕ → Bool) (gone : List Gone) (fresh : Bool)
+    (told : (w : WriterId) (s : ℕ) → named w s ≡ is_named (join_points old coming) w s)
+    (all_shown : shown names_key old ≡ old) (known : fresh ≡ false → (w : WriterId) (s : ℕ) → named w s ≡ is_named old w s)
+    (gone_is : (k : Key) → is_of_any gone k ≡ (named k.writer k.start && (is_held coming k || (fresh && is_held old k)))) where
   hidden_none : (q : Key) (c : Cell Payload) → get old q ≡ Some c → hides names_key old q ≡ true → ⊥
   hidden_none q c e h = no_cell c (sym e ∙ ap (λ (m : Points). get m q) (sym all_shown) ∙ get-shown key_total key_exact names_key old q ∙ ap (λ b. cond (not b) (get old q) None) h)
 
-  of_old : (q : Key) (c : Cell Payload) → get old q ≡ Some c → is_tombstone q ≡ false → has_name names q.writer q.start ≡ true → (b : Bool) → fresh ≡ b → (b && is_held old q) ≡ true
-  of_old q c e plain named true f = held_there old q c e
-  of_old q c e plain named false f = absurd (hidden_none q c e
-      (hides_is old q ∙ ap (λ b. not b && is_named old q.writer q.start) plain ∙ sym (known f q.writer q.start) ∙ named))
+  of_old : (q : Key) (c : Cell Payload) → get old q ≡ Some c → is_tombstone q ≡ false → named q.writer q.start ≡ true → (b : Bool) → fresh ≡ b → (b && is_held old q) ≡ true
+  of_old q c e plain is true f = held_there old q c e
+  of_old q c e plain is false f = absurd (hidden_none q c e
+      (hides_is old q ∙ ap (λ b. not b && is_named old q.writer q.start) plain ∙ sym (known f q.writer q.start) ∙ is))
 
-  is_there : (q : Key) (c : Cell Payload) → J (get old q) (get coming q) ≡ Some c → is_tombstone q ≡ false → has_name names q.writer q.start ≡ true
+  is_there : (q : Key) (c : Cell Payload) → J (get old q) (get coming q) ≡ Some c → is_tombstone q ≡ false → named q.writer q.start ≡ true
       → (x y : Option (Cell Payload)) → get old q ≡ x → get coming q ≡ y → (is_held coming q || (fresh && is_held old q)) ≡ true
-  is_there q c e plain named x (Some v) f g = ap (λ b. b || (fresh && is_held old q)) (held_there coming q v g)
-  is_there q c e plain named (Some v) None f g = or_true (is_held coming q) _ (of_old q v f plain named fresh refl)
-  is_there q c e plain named None None f g = absurd (no_cell c (sym e ∙ (λ i. J (f i) (g i))))
+  is_there q c e plain is x (Some v) f g = ap (λ b. b || (fresh && is_held old q)) (held_there coming q v g)
+  is_there q c e plain is (Some v) None f g = or_true (is_held coming q) _ (of_old q v f plain is fresh refl)
+  is_there q c e plain is None None f g = absurd (no_cell c (sym e ∙ (λ i. J (f i) (g i))))
 
-  plain_goes : (q : Key) (c : Cell Payload) → get (join_points old coming) q ≡ Some c → is_tombstone q ≡ false → (b : Bool) → has_name names q.writer q.start ≡ b → is_of_any gone q ≡ b
-  plain_goes q c e plain true named =
-      gone_is q ∙ (λ i. named i && (is_held coming q || (fresh && is_held old q)))
-      ∙ is_there q c (sym (get_joined old coming q) ∙ e) plain named (get old q) (get coming q) refl refl
-  plain_goes q c e plain false named = gone_is q ∙ (λ i. named i && (is_held coming q || (fresh && is_held old q)))
+  plain_goes : (q : Key) (c : Cell Payload) → get (join_points old coming) q ≡ Some c → is_tombstone q ≡ false → (b : Bool) → named q.writer q.start ≡ b → is_of_any gone q ≡ b
+  plain_goes q c e plain true is =
+      gone_is q ∙ (λ i. is i && (is_held coming q || (fresh && is_held old q)))
+      ∙ is_there q c (sym (get_joined old coming q) ∙ e) plain is (get old q) (get coming q) refl refl
+  plain_goes q c e plain false is = gone_is q ∙ (λ i. is i && (is_held coming q || (fresh && is_held old q)))
 
   goes : (q : Key) (c : Cell Payload) → get (join_points old coming) q ≡ Some c → (b : Bool) → is_tombstone q ≡ b → (not b && is_of_any gone q) ≡ (not b && is_named (join_points old coming) q.writer q.start)
   goes q c e true t = refl
@@ -173,10 +174,9 @@ module _ (old coming : Points) (names : List Name) (gone : List Gone) (fresh : B
 
 -- ---- a keeper's fields
 
-pub keeps_shown : (stream : Stream) (names : List Name) (m new : Points) → stream ≡ tombstones → AreInOrder names → Tell names m → new ≡ shown names_key m → IsKeeping stream names new
-keeps_shown stream names m new is order told e = record {
+pub keeps_shown : (stream : Stream) (names : List Name) (m new : Points) → stream ≡ tombstones → Tell names m → new ≡ shown names_key m → IsKeeping stream names new
+keeps_shown stream names m new is told e = record {
   stream_is = is;
-  in_order = order;
   told = λ w s. told w s ∙ sym (named_shown m w s) ∙ ap (λ (x : Points). is_named x w s) (sym e);
   all_shown = ap (shown names_key) e ∙ shown_twice key_total key_exact names_key names_no_tombstone m ∙ sym e;
 }
@@ -203,17 +203,13 @@ empty_shown m e = same_map key_total key_exact _ _ (λ q.
     either true o = refl
     either false o = refl
 
--- names with those that come tell what is joined
-pub both_told : (names coming all : List Name) (m n : Points) → Tell names m → Tell coming n
-    → ((w : WriterId) (s : ℕ) → has_name all w s ≡ (has_name names w s || has_name coming w s)) → Tell all (join_points m n)
-both_told names coming all m n a b is w s = is w s ∙ (λ i. a w s i || b w s i) ∙ sym (named_joined m n w s)
-
 pub or_false : (a : Bool) → a ≡ (a || false)
 or_false true = refl
 or_false false = refl
 
-pub still_told : (names coming : List Name) (m n : Points) → Tell names m → Tell coming n → coming ≡ [] → Tell names (join_points m n)
-still_told names coming m n a b e = both_told names coming names m n a b (λ w s. or_false (has_name names w s) ∙ ap (λ (l : List Name). has_name names w s || has_name l w s) (sym e))
+-- names with those that come tell what is joined
+pub both_told : (named : WriterId → ℕ → Bool) (m n : Points) → ((w : WriterId) (s : ℕ) → named w s ≡ (is_named m w s || is_named n w s)) → (w : WriterId) (s : ℕ) → named w s ≡ is_named (join_points m n) w s
+both_told named m n is w s = is w s ∙ sym (named_joined m n w s)
 
 -- what joined into nothing is itself
 pub joined_alone : (m n k : Points) → m ≡ empty → k ≡ join_points m n → k ≡ n
@@ -264,13 +260,6 @@ both_gone g k h c f o e n t = n ∙ ap (λ x. x || (h && o)) e ∙ together h c 
     together true c o = refl
     together false c o = refl
 
--- a name more
-pub name_more : (names new : List Name) (n : Name) (w : WriterId) (s : ℕ) (t b : Bool) → new ≡ names ++ n ∷ [] → is_name w s n ≡ b → t ≡ b → has_name new w s ≡ (has_name names w s || t)
-name_more names new n w s t b e is same =
-    ap (λ (l : List Name). has_name l w s) e
-    ∙ list_any-append (is_name w s) names (n ∷ [])
-    ∙ ap (λ x. has_name names w s || x) (sym (or_false (is_name w s n)) ∙ is ∙ sym same)
-
 pub gone_more : (gone new : List Gone) (g : Gone) (k : Key) (h t : Bool) → new ≡ gone ++ g ∷ [] → is_of_incarnation g.writer g.start k ≡ t → (t ≡ true → h ≡ true) → is_of_any new k ≡ (is_of_any gone k || (h && t))
 gone_more gone new g k h t e is named =
     ap (λ (l : List Gone). is_of_any l k) e
@@ -282,8 +271,8 @@ gone_more gone new g k h t e is named =
     both false true f = refl
     both false false f = refl
 
-pub same_incarnation : (w : WriterId) (s : ℕ) (k : Key) → is_of_incarnation w s k ≡ true → (names : List Name) → has_name names w s ≡ has_name names k.writer k.start
-same_incarnation w s k t names = ap (λ (a : IncarnationKey). has_name names a.0 a.1) (incarnation_exact (w, s) (k.writer, k.start) ((Equal-is _).0 t))
+pub same_incarnation : (w : WriterId) (s : ℕ) (k : Key) → is_of_incarnation w s k ≡ true → (named : WriterId → ℕ → Bool) → named w s ≡ named k.writer k.start
+same_incarnation w s k t named = ap (λ (a : IncarnationKey). named a.0 a.1) (incarnation_exact (w, s) (k.writer, k.start) ((Equal-is _).0 t))
 
 pub not_gone : (gone : List Gone) (k : Key) (h t : Bool) → (t ≡ true → h ≡ false) → is_of_any gone k ≡ (is_of_any gone k || (h && t))
 not_gone gone k h t f = or_false (is_of_any gone k) ∙ ap (λ x. is_of_any gone k || x) (sym (never t h f))
@@ -304,9 +293,10 @@ plain_tells_nothing stream w s t e h = ap (λ b. b && set_eq t.attrs (incarnatio
 pub tombstone_tells : (stream : Stream) (w : WriterId) (s : ℕ) (t : Key) → stream ≡ tombstones → stream_eq stream t.stream ≡ true → tells w s t ≡ set_eq t.attrs (incarnation_attrs w s)
 tombstone_tells stream w s t e h = ap (λ b. b && set_eq t.attrs (incarnation_attrs w s)) (ap (λ (x : Stream). stream_eq x t.stream) (sym e) ∙ h)
 
-pub nothing_in_order : AreInOrder []
-nothing_in_order k d l m = absurd (omega (arith, m))
+pub none_noted : (ns : List Name) (a : Bool) (w : WriterId) (s : ℕ) → not (is_empty ns) ≡ false → (a || has_name ns w s) ≡ a
+none_noted [] a w s e = sym (or_false a)
+none_noted (n ∷ ns) a w s e = absurd (true≢false e)
 
-pub no_names : (ns : List Name) → nat_eq (length ns) 0 ≡ true → ns ≡ []
-no_names [] e = refl
-no_names (n ∷ ns) e = let long : length (n ∷ ns) ≡ 0 = exact_unsigned _ _ e in absurd (omega (arith, long))
+pub if_ok : {U E : Type 0} {P Q : U → Type 0} (r : Result U E) → ((x : U) → P x → Q x) → IfOk r P → IfOk r Q
+if_ok (Ok x) f p = f x p
+if_ok (Err e) f p = tt

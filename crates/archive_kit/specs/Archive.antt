@@ -1,12 +1,10 @@
 -- An archive: what contracts see of it, why it adopts no incarnation, and what adopting, exporting and sealing make of it.
 use Rattle.std.specs.Prelude.{◌≡◌, ℕ, ◌-◌, ◌≤◌, ◌^◌, pos, Bool, true, false, not, ◌||◌, ◌==◌, if◌then◌else◌, nat_lt, nat_le, IsTrue}
-use Rattle.std.specs.Prelude.{ℤ, List, [], ◌∷◌, ◌++◌, Option, Some, None, codes, length, drop}
+use Rattle.std.specs.Prelude.{List, [], ◌∷◌, ◌++◌, Option, Some, None, length, drop}
 use Rattle.std.specs.List.{list_any, list_all, filter_map}
 use Rattle.std.specs.Option.{is_some, option_map}
 use Rattle.attr_kit.specs.Refusing.{first, when}
 use Rattle.attr_kit.specs.contracts.txt.TxtPartialEq.TheImpl as texts
-use Rattle.attr_kit.specs.declared.attr_set.AttrSet.{AttrSet}
-use Rattle.attr_kit.specs.declared.attr_value.AttrValue.TheVariants as values
 use Rattle.point_kit.specs.contracts.writer_id.WriterIdPartialEq.TheImpl as writers
 use Rattle.point_kit.specs.ExportFaults.{export_fault, same_key}
 use Rattle.point_kit.specs.declared.cell.Cell.{Cell}
@@ -23,7 +21,8 @@ use Rattle.archive_kit.specs.declared.adopt_fault.AdoptFault.{AdoptFault}
 use Rattle.archive_kit.specs.declared.adopt_fault.AdoptFault.TheVariants as faults
 use Rattle.archive_kit.specs.declared.seal_refusal.SealRefusal.{SealRefusal}
 use Rattle.archive_kit.specs.declared.seal_refusal.SealRefusal.TheVariants as refusals
-use Rattle.archive_kit.specs.Tombstones.{tombstones, incarnation_attrs, is_tombstone, stream_eq}
+use Rattle.archive_kit.specs.Named.{Name, has_name}
+use Rattle.archive_kit.specs.Tombstones.{tombstones, incarnation_attrs, is_tombstone, set_eq, stream_eq}
 use Rattle.archive_kit.specs.Totals.{add_totals, fit_totals}
 
 -- whose it is, when this incarnation of it began and exported last (the start before the first), how many totals it may have, these,
@@ -66,15 +65,6 @@ tombstone_of writer start time = record {
   attrs = incarnation_attrs writer (told start);
   payload = Gauge (pos (told time));
 }
-
--- a point of a stream whose attributes tell an instance, a service and a start
-abbrev pub attrs_told : List ℕ → List ℕ → ℤ → AttrSet
-attrs_told instance service start =
-    (codes "instance", values.Text instance) ∷ (codes "service", values.Text service) ∷ (codes "start", values.Whole start) ∷ []
-
-abbrev pub point_told : Stream → List ℕ → List ℕ → ℤ → ExportPoint
-point_told stream instance service start =
-    record { stream = stream; attrs = attrs_told instance service start; payload = Gauge (pos 0) }
 
 -- the points of cells: of each that is no conflict its payload
 abbrev pub payload_held : Held Payload → Option Payload
@@ -165,6 +155,10 @@ seal_refusal a start = first (when (nat_le start a.exported) refusals.StartNotLa
 -- the archive begun anew under another start: what it exported stays as it is, and what it adopted it does not adopt again
 abbrev pub begun_anew : ArchiveState → ℕ → ArchiveState
 begun_anew a start = record a { start = start; exported = start; totals = []; sealed = length a.tombstones }
+
+-- the names are those that tombstones tell
+abbrev pub NameAdopted : List Name → List ExportPoint → Type 0
+NameAdopted names tombs = (w : WriterId) (s : ℕ) → has_name names w s ≡ list_any (λ p. set_eq p.attrs (incarnation_attrs w s)) tombs
 
 -- what is kept of an archive's fields: an export could have all these points, tombstones are apart, and the last export was after
 -- the start

@@ -1,10 +1,7 @@
 -- What a keeper holds and answers: a gateway's points that are always what is shown, and the names that held tombstones tell.
-use Rattle.std.specs.Prelude.{◌≡◌, ℕ, pos, Bool, true, false, ◌&&◌, ◌==◌, if◌then◌else◌, List, [], ◌∷◌, codes}
+use Rattle.std.specs.Prelude.{◌≡◌, ℕ, Bool, true, false, ◌&&◌, ◌==◌, if◌then◌else◌, List}
 use Rattle.std.specs.List.{list_any}
 use Rattle.std.specs.FinMap.{keys}
-use Rattle.std.specs.List.Sorted.{IsSorted}
-use Rattle.attr_kit.specs.declared.attr_set.AttrSet.{AttrSet}
-use Rattle.attr_kit.specs.declared.attr_value.AttrValue.TheVariants as values
 use Rattle.gateway_kit.specs.Listing.{held_incarnations}
 use Rattle.gateway_kit.specs.Queries.{is_of_incarnation}
 use Rattle.point_kit.specs.Exports.{Points, join_points}
@@ -13,9 +10,8 @@ use Rattle.point_kit.specs.declared.stream.Stream.{Stream}
 use Rattle.point_kit.specs.declared.writer_id.WriterId.{WriterId}
 use Rattle.archive_kit.specs.Showing.{shown}
 use Rattle.archive_kit.specs.Tombstones.{tombstones, incarnation_attrs, is_tombstone, names_key, set_eq}
-use Rattle.archive_kit.specs.contracts.name.NameOrd.TheImpl as orders
 use Rattle.archive_kit.specs.declared.dropping.Gone.{Gone}
-use Rattle.archive_kit.specs.declared.name.Name.{Name}
+use Rattle.archive_kit.specs.Named.{Name, has_name}
 use Rattle.archive_kit.specs.declared.taking.Taking.{Taking}
 use Rattle.archive_kit.specs.declared.taking.Taking.TheVariants.{Taken, Stale, Late}
 
@@ -36,24 +32,9 @@ abbrev pub taking : Bool → ℕ → Taking
 taking true changed = Late
 taking false changed = if changed == 0 then Stale else Taken changed
 
--- the attributes that a name stands for
-abbrev pub name_attrs : Name → AttrSet
-name_attrs n = (codes "instance", values.Text n.instance) ∷ (codes "service", values.Text n.service) ∷ (codes "start", values.Whole (pos n.start)) ∷ []
-
-abbrev pub is_name : WriterId → ℕ → Name → Bool
-is_name writer start n = set_eq (name_attrs n) (incarnation_attrs writer start)
-
--- whether one of the names is that of the incarnation
-abbrev pub has_name : List Name → WriterId → ℕ → Bool
-has_name names writer start = list_any (is_name writer start) names
-
 -- the names are those that the tombstones tell, whatever incarnation is asked for
 abbrev pub Tell : List Name → Points → Type 0
 Tell names points = (writer : WriterId) (start : ℕ) → has_name names writer start ≡ is_named points writer start
-
--- names in their order
-abbrev pub AreInOrder : List Name → Type 0
-AreInOrder names = IsSorted (orders.ghosts).cmp names
 
 -- a point of the key's incarnation is held
 abbrev pub is_held : Points → Key → Bool
@@ -66,6 +47,5 @@ is_of_any gone key = list_any (λ g. is_of_incarnation g.writer g.start key) gon
 -- a keeper's fields
 pub record IsKeeping (stream : Stream) (names : List Name) (points : Points) : Type 0 where
   pub stream_is : stream ≡ tombstones
-  pub in_order : AreInOrder names
   pub told : Tell names points
   pub all_shown : shown names_key points ≡ points

@@ -1,5 +1,5 @@
 -- What calls make of a node: it takes points in, and drops keys.
-use Rattle.std.specs.Prelude.{◌≡◌, ℕ, Bool, true, not, ◌&&◌, List, Some}
+use Rattle.std.specs.Prelude.{◌≡◌, ℕ, ◌⊎◌, Bool, true, not, ◌&&◌, List, Some}
 use Rattle.std.specs.FinMap.{FinMap, get, retain_keys}
 use Rattle.std.specs.Ordering.{nat_cmp}
 use Rattle.gossip_kit.specs.Gossip.{Renumbers}
@@ -43,3 +43,12 @@ pub record JoinsAndDrops (brought : Points) (books : FinMap nat_cmp ℕ) (old ne
   pub joins : Joins brought books old between
   pub drops : Drops gone between new
   pub hidden : AreHidden gone between.gateway.points
+
+-- a node left points out, since it hides all of them
+pub record Skips (brought : Points) (old new : NodeModel) : Type 0 where
+  pub same : new ≡ old
+  pub hidden : (k : Key) (c : Cell Payload) → get brought k ≡ Some c → hides names_key old.gateway.points k ≡ true
+
+-- a node took points in and dropped keys that it hid, or left them all out
+abbrev pub JoinsOrSkips : Points → FinMap nat_cmp ℕ → NodeModel → NodeModel → Type 0
+JoinsOrSkips brought books old new = JoinsAndDrops brought books old new ⊎ Skips brought old new

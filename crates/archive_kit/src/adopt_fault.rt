@@ -28,8 +28,8 @@ pub enum AdoptFault {
     /// No export has these points: the time is not after the start, or a payload is not sound in its stream.
     #[error("no export has these points")]
     Unsound,
-    /// Its start or its time is at or above 2^63 - 1, or a total would leave its range. A fresh incarnation of the archive can take it where it
-    /// is a total.
+    /// Its start or its time is at or above 2^63 - 1, or a total would leave its range. Where it is a total, a fresh incarnation of the
+    /// archive can take it.
     #[error("a number leaves its range")]
     OutOfRange,
     /// The archive would have more totals than its limit.

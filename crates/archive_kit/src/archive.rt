@@ -2,7 +2,7 @@
 ghost use Rattle.std.specs.Prelude.{◌≡◌, ◌≢◌, ◌<◌, ◌≤◌, ◌-◌, nat_lt, IfOk, IfErr, OnOk, OnErr, None, Some, length, true, false};
 ghost use Rattle.gateway_kit.specs.Queries.{incarnation_points, part_points};
 ghost use Rattle.archive_kit.specs.Archive.{adopt_fault, early_fault, late_fault, is_of_archive, was_adopted, seal_refusal};
-ghost use Rattle.archive_kit.specs.Archive.{adopted, begun_anew, exported_at, exported_points, fresh, points_held};
+ghost use Rattle.archive_kit.specs.Archive.{adopted, begun_anew, exported_at, exported_points, fresh, points_held, told};
 ghost use Rattle.archive_kit.specs.Keeping.{is_named};
 ghost use Rattle.archive_kit.specs.Tombstones.{is_tombstone};
 ghost use Rattle.std.specs.List.{list_any};
@@ -10,7 +10,8 @@ ghost use Rattle.archive_kit.specs.Totals.{add_totals};
 
 use crate::early::{Early, first_fault};
 use crate::held::{has_conflict, has_other_time, has_stream, last_export, time_of};
-use crate::tombstone::{has_tombstone, tombstone_of, tombstones};
+use crate::names::Names;
+use crate::tombstone::{tombstone_of, tombstones};
 use crate::totals::{add_totals, push};
 use crate::{AdoptFault, ExportRefusal, Keeper, SealRefusal};
 use attr_kit::{NoMemory, Seq, copy_all};
@@ -21,6 +22,17 @@ use std::marker::Model;
 
 /// The greatest number that a tombstone tells.
 const LAST_TOLD: u64 = 9223372036854775807;
+
+// A number as an attribute tells it.
+fn told(number: u64) -> u64
+    ensures { result ≡ told number }
+{
+    if number >= LAST_TOLD {
+        LAST_TOLD
+    } else {
+        number
+    }
+}
 
 /// A writer that adopts ended incarnations of its service: it adds their last points into its own, and its exports have beside
 /// these a tombstone for each. A gateway that holds such an export need not show the points of what it names.
@@ -36,12 +48,14 @@ pub struct Archive {
     limit: usize,
     totals: Vec<ExportPoint>,
     tombstones: Vec<ExportPoint>,
+    /// What these name.
+    names: Names,
     sealed: usize,
     unexported: bool,
 }
 
 impl Model for Archive {
-    ghost use Rattle.archive_kit.specs.Archive.{ArchiveState, AreKept};
+    ghost use Rattle.archive_kit.specs.Archive.{ArchiveState, AreKept, NameAdopted};
 
     ghost Value = { ArchiveState };
 
@@ -56,7 +70,8 @@ impl Model for Archive {
       unexported = a.unexported;
     } };
 
-    ghost invariant = { λ a. AreKept a.stream a.start a.exported a.totals.items a.tombstones.items a.sealed };
+    ghost invariant = { λ a. AreKept a.stream a.start a.exported a.totals.items a.tombstones.items a.sealed
+        × NameAdopted a.names.names a.tombstones.items };
 }
 
 impl Archive {
@@ -78,6 +93,7 @@ impl Archive {
             limit,
             totals: Vec::new(alloc),
             tombstones: Vec::new(alloc),
+            names: Names::new(alloc),
             sealed: 0,
             unexported: false,
         })
@@ -121,7 +137,7 @@ impl Archive {
     fn has_adopted(&self, writer: &WriterId, start: u64) -> bool
         ensures { result ≡ was_adopted self.now writer.now start }
     {
-        has_tombstone(self.tombstones.as_slice(), &self.stream, writer, start)
+        self.names.has(writer, told(start))
     }
 
     // The first refusal that needs no copies. Takes no memory.
@@ -181,7 +197,10 @@ impl Archive {
         let tombstone = tombstone_of(alloc, &self.stream, writer, start, time_of(items))?;
         match self.totals_with(writer, start, items) {
             Ok(totals) => {
+                self.names.note_incarnation(writer, told(start))?;
+                self.names.reserve()?;
                 push(&mut self.tombstones, tombstone)?;
+                self.names.settle();
                 self.totals = totals;
                 self.unexported = true;
                 Ok(())

@@ -3,7 +3,6 @@ ghost use Rattle.std.specs.Prelude.{◌≡◌};
 ghost use Rattle.archive_kit.specs.Stepping.{Drops, is_gone};
 ghost use Rattle.archive_kit.specs.Tombstones.{tombstones};
 
-use crate::name::Name;
 use gossip_kit::Node;
 use point_kit::{SharedStream, WriterId};
 
@@ -12,13 +11,6 @@ use point_kit::{SharedStream, WriterId};
 pub(crate) struct Gone {
     pub(crate) writer: WriterId,
     pub(crate) start: u64,
-}
-
-/// What is to be done once points have come: what is forgotten, and where new names came all that there are then.
-#[derive(Debug, Drop)]
-pub(crate) struct Ready {
-    pub(crate) names: Option<Vec<Name>>,
-    pub(crate) gone: Vec<Gone>,
 }
 
 /// Drops what of incarnations is no tombstone. Takes no memory.

@@ -1,5 +1,5 @@
 //! A node that shows no point that a tombstone names.
-ghost use Rattle.std.specs.Prelude.{◌≡◌, ◌≢◌, ◌||◌, ◌&&◌, false, IfErr, IfOk, IsOk, IsSome, OnOk, OnErr, Ok, Some, None, ℕ, [], ◌∷◌};
+ghost use Rattle.std.specs.Prelude.{◌≡◌, ◌≢◌, ◌≤◌, ◌||◌, ◌&&◌, IfErr, IfOk, IsOk, IsSome, OnOk, OnErr, Ok, Some, None, ℕ, [], ◌∷◌, length};
 ghost use Rattle.std.specs.FinMap as finite;
 ghost use Rattle.gateway_kit.specs.Listing.{held_of_ref};
 ghost use Rattle.gateway_kit.specs.Queries.{is_of_incarnation};
@@ -7,17 +7,19 @@ ghost use Rattle.gateway_kit.specs.Walks.{keyed_cell_of_ref};
 ghost use Rattle.point_kit.specs.Exports.{join_points, changed_points, state};
 ghost use Rattle.point_kit.specs.declared.key.Key.{Key};
 ghost use Rattle.point_kit.specs.declared.writer_id.WriterId.{WriterId};
-ghost use Rattle.archive_kit.specs.Keeping.{is_held, is_named, is_of_any, has_name, kept_points, taking, tells, AreInOrder, Tell};
+ghost use Rattle.archive_kit.specs.Keeping.{is_held, is_named, is_of_any, kept_points, taking, tells, Tell};
+ghost use Rattle.archive_kit.specs.Named.{has_either, has_name};
 ghost use Rattle.archive_kit.specs.Showing.{shown};
-ghost use Rattle.archive_kit.specs.Readiness.{IsReady, items_of, names_then};
-ghost use Rattle.archive_kit.specs.Stepping.{Drops, JoinsAndDrops, is_gone};
+ghost use Rattle.archive_kit.specs.Readiness.{IsReady};
+ghost use Rattle.archive_kit.specs.Stepping.{Drops, JoinsAndDrops, JoinsOrSkips, is_gone};
 ghost use Rattle.gossip_kit.specs.Gossip.{acked_after, answer_of, first_node, hand_fault};
 ghost use Rattle.archive_kit.specs.Tombstones.{names_key, stream_eq, tombstones};
 ghost use Rattle.std.specs.List.{list_any};
 
 use crate::Taking;
-use crate::dropping::{Gone, Ready, forget_all};
-use crate::name::{Name, has_name, names_new, names_with, told_name};
+use crate::dropping::{Gone, forget_all};
+use crate::name::told_name;
+use crate::names::Names;
 use crate::tombstone::tombstones;
 use attr_kit::NoMemory;
 use gateway_kit::{Gateway, IncarnationRef, PointRef};
@@ -30,9 +32,10 @@ use std::marker::Model;
 /// a tombstone comes. So it gives back the memory of incarnations that an archive adopted. It gossips as any node does.
 #[derive(Debug, Drop)]
 pub struct Keeper {
+    alloc: Global,
     node: Node,
-    /// What its tombstones name, in order.
-    names: Vec<Name>,
+    /// What its tombstones name.
+    names: Names,
     stream: SharedStream,
 }
 
@@ -48,51 +51,44 @@ impl Model for Keeper {
 
     ghost view = { λ k. k.node };
 
-    ghost invariant = { λ k. IsKeeping k.stream k.names.items k.node.gateway.points };
+    ghost invariant = { λ k. IsKeeping k.stream k.names.names k.node.gateway.points };
 }
 
-// Adds the name that a point tells, where it is a tombstone.
-fn add_told(
-    names: &mut Vec<Name>,
-    alloc: Global,
-    point: &PointRef<'_>,
-    stream: &SharedStream,
-) -> Result<(), NoMemory>
+// Notes the name that a point tells, where it is a tombstone.
+fn note_told(names: &mut Names, point: &PointRef<'_>, stream: &SharedStream) -> Result<(), NoMemory>
     requires { stream.now ≡ tombstones }
-    ensures { OnOk result ((writer : WriterId) (start : ℕ) → has_name names.new.items writer start
-        ≡ (has_name names.old.items writer start || tells writer start (keyed_cell_of_ref point.now).0)) }
+    ensures names { names.new.names ≡ names.old.names }
+    ensures noted { OnOk result ((writer : WriterId) (start : ℕ) → has_either names.new writer start
+        ≡ (has_either names.old writer start || tells writer start (keyed_cell_of_ref point.now).0)) }
 {
     if stream.get() != point.stream {
         return Ok(());
     }
-    match told_name(alloc, point.attrs)? {
-        Some(name) => {
-            names.push(name)?;
-            Ok(())
-        }
+    match told_name(point.attrs) {
+        Some(told) => names.note(&told),
         None => Ok(()),
     }
 }
 
-// The names that a gateway's tombstones tell.
-fn names_in(alloc: Global, gateway: &Gateway, stream: &SharedStream) -> Result<Vec<Name>, NoMemory>
+// Notes the names that a gateway's tombstones tell.
+fn note_all(names: &mut Names, gateway: &Gateway, stream: &SharedStream) -> Result<(), NoMemory>
     requires { stream.now ≡ tombstones }
-    ensures { IfOk result (λ names. Tell names.items gateway.now.points) }
+    ensures names { names.new.names ≡ names.old.names }
+    ensures noted { OnOk result ((writer : WriterId) (start : ℕ) → has_either names.new writer start
+        ≡ (has_either names.old writer start || is_named gateway.now.points writer start)) }
 {
-    let mut names = Vec::new(alloc);
     for point in gateway.points() {
-        add_told(&mut names, alloc, &point, stream)?;
+        note_told(names, &point, stream)?;
     }
-    Ok(names)
+    Ok(())
 }
 
-// Adds an incarnation where it has one of the names.
-fn add_held(gone: &mut Vec<Gone>, held: IncarnationRef<'_>, names: &[Name]) -> Result<(), NoMemory>
-    requires { AreInOrder names.now }
+// Adds an incarnation where it has one of the names, or one that was noted.
+fn add_held(gone: &mut Vec<Gone>, held: IncarnationRef<'_>, names: &Names) -> Result<(), NoMemory>
     ensures { OnOk result ((k : Key) → is_of_any gone.new.items k ≡ (is_of_any gone.old.items k
-        || (has_name names.now k.writer k.start && is_of_incarnation (held_of_ref held.entry).writer (held_of_ref held.entry).start k))) }
+        || (has_either names.now k.writer k.start && is_of_incarnation (held_of_ref held.entry).writer (held_of_ref held.entry).start k))) }
 {
-    if !has_name(names, held.writer, held.start) {
+    if !names.has_either(held.writer, held.start) {
         return Ok(());
     }
     gone.push(Gone {
@@ -102,11 +98,10 @@ fn add_held(gone: &mut Vec<Gone>, held: IncarnationRef<'_>, names: &[Name]) -> R
     Ok(())
 }
 
-// Adds the incarnations that a gateway holds points of and that have one of the names.
-fn add_named(gone: &mut Vec<Gone>, gateway: &Gateway, names: &[Name]) -> Result<(), NoMemory>
-    requires { AreInOrder names.now }
+// Adds the incarnations that a gateway holds points of and that have one of the names, or one that was noted.
+fn add_named(gone: &mut Vec<Gone>, gateway: &Gateway, names: &Names) -> Result<(), NoMemory>
     ensures { OnOk result ((k : Key) → is_of_any gone.new.items k
-        ≡ (is_of_any gone.old.items k || (has_name names.now k.writer k.start && is_held gateway.now.points k))) }
+        ≡ (is_of_any gone.old.items k || (has_either names.now k.writer k.start && is_held gateway.now.points k))) }
 {
     for held in gateway.incarnations() {
         add_held(gone, held, names)?;
@@ -114,17 +109,16 @@ fn add_named(gone: &mut Vec<Gone>, gateway: &Gateway, names: &[Name]) -> Result<
     Ok(())
 }
 
-// The incarnations with one of the names that another gateway holds points of, and where asked for this one too.
+// The incarnations with one of the names, or one that was noted, that another gateway holds points of, and where asked for this one too.
 fn named_held(
     alloc: Global,
     gateway: &Gateway,
     other: &Gateway,
-    names: &[Name],
+    names: &Names,
     fresh: bool,
 ) -> Result<Vec<Gone>, NoMemory>
-    requires { AreInOrder names.now }
     ensures { IfOk result (λ gone. (k : Key) → is_of_any gone.items k
-        ≡ (has_name names.now k.writer k.start && (is_held other.now.points k || (fresh && is_held gateway.now.points k)))) }
+        ≡ (has_either names.now k.writer k.start && (is_held other.now.points k || (fresh && is_held gateway.now.points k)))) }
 {
     let mut gone = Vec::new(alloc);
     add_named(&mut gone, other, names)?;
@@ -135,45 +129,37 @@ fn named_held(
     Ok(gone)
 }
 
-// What is to be done as what another gateway holds comes in. Where no new names come, only what the other holds can be named.
+// Notes the names that come with what another gateway holds, with room for them, and says what is to be forgotten then. Where no new
+// names come, only what the other holds can be named.
 fn ready(
     alloc: Global,
     gateway: &Gateway,
-    names: &Vec<Name>,
+    names: &mut Names,
     other: &Gateway,
     stream: &SharedStream,
-) -> Result<Ready, NoMemory>
+) -> Result<Vec<Gone>, NoMemory>
     requires stream { stream.now ≡ tombstones }
-    requires in_order { AreInOrder names.now.items }
-    requires told { Tell names.now.items gateway.now.points }
+    requires told { Tell names.old.names gateway.now.points }
     requires all_shown { shown names_key gateway.now.points ≡ gateway.now.points }
-    ensures { IfOk result (λ r. IsReady names.now.items gateway.now.points other.now.points r) }
+    ensures names { names.new.names ≡ names.old.names }
+    ensures ready { IfOk result (λ gone. IsReady names.new gateway.now.points other.now.points gone.items) }
 {
-    let told = names_in(alloc, other, stream)?;
-    let coming = names_new(alloc, names.as_slice(), told)?;
-    if coming.as_slice().is_empty() {
-        let gone = named_held(alloc, gateway, other, names.as_slice(), false)?;
-        return Ok(Ready { names: None, gone });
-    }
-    let all = names_with(names, coming)?;
-    let gone = named_held(alloc, gateway, other, all.as_slice(), true)?;
-    Ok(Ready {
-        names: Some(all),
-        gone,
-    })
+    names.drop_noted();
+    note_all(names, other, stream)?;
+    names.reserve()?;
+    let fresh = names.has_noted();
+    named_held(alloc, gateway, other, names, fresh)
 }
 
-// Forgets what is to be forgotten, and takes the names over. Takes no memory.
-fn settle(node: &mut Node, names: &mut Vec<Name>, ready: Ready, stream: &SharedStream)
-    requires { stream.now ≡ tombstones }
-    ensures drops { Drops (is_gone ready.gone.items) node.old node.new }
-    ensures names { names.new.items ≡ names_then names.old.items (items_of ready.names) }
+// Forgets what is to be forgotten, and takes over the names that were noted. Takes no memory.
+fn settle(node: &mut Node, names: &mut Names, gone: &[Gone], stream: &SharedStream)
+    requires stream { stream.now ≡ tombstones }
+    requires room { length names.old.fresh ≤ names.old.room }
+    ensures drops { Drops (is_gone gone.now) node.old node.new }
+    ensures names { (writer : WriterId) (start : ℕ) → has_name names.new.names writer start ≡ has_either names.old writer start }
 {
-    let Ready { names: all, gone } = ready;
-    forget_all(node, gone.as_slice(), stream);
-    if let Some(all) = all {
-        *names = all;
-    }
+    forget_all(node, gone, stream);
+    names.settle();
 }
 
 // The cells that a message carries: those of the empty gateway where it is an Ack.
@@ -225,8 +211,9 @@ impl Keeper {
         ensures value { IfOk result (λ keeper. keeper ≡ first_node (record { id = id; points = finite.empty; numbers = finite.empty })) }
     {
         Ok(Keeper {
+            alloc,
             node: Node::new(alloc, Gateway::new(alloc, id)),
-            names: Vec::new(alloc),
+            names: Names::new(alloc),
             stream: tombstones(alloc)?,
         })
     }
@@ -249,10 +236,10 @@ impl Keeper {
     /// Joins what another gateway holds, and forgets what a tombstone then names, but for tombstones. Answers how many keys the join
     /// changed.
     ///
-    /// It costs what `Node::merge` does, a walk over the other's points, and a look-up of each of its incarnations, O(log t) of t
-    /// names. Where it brings tombstones, the names are copied and sorted anew, O(t log t), and the incarnations held here are
-    /// looked up too. What is named costs `Node::forget_but`. Refused with `NoMemory`, with nothing changed. A gateway without
-    /// points changes nothing and takes no memory.
+    /// It costs what `Node::merge` does, a walk over the other's points, and a look-up of each of its incarnations. A look-up costs the
+    /// same of however many names. Where it brings names, these are added, and the incarnations held here are looked up too. What is
+    /// named costs `Node::forget_but`. Refused with `NoMemory`, with nothing changed. A gateway without points changes nothing and
+    /// takes no memory.
     pub fn merge(&mut self, other: &Gateway) -> Result<u64, NoMemory>
         ensures id { self.new.gateway.id ≡ self.old.gateway.id }
         ensures ok { OnOk result (self.new.gateway.points ≡ kept_points self.old.gateway.points other.now.points) }
@@ -265,10 +252,20 @@ impl Keeper {
         if other.len() == 0 {
             return self.node.merge(other);
         }
-        let alloc = *self.names.allocator();
-        let ready = ready(alloc, self.node.gateway(), &self.names, other, &self.stream)?;
+        let gone = ready(
+            self.alloc,
+            self.node.gateway(),
+            &mut self.names,
+            other,
+            &self.stream,
+        )?;
         let changed = self.node.merge(other)?;
-        settle(&mut self.node, &mut self.names, ready, &self.stream);
+        settle(
+            &mut self.node,
+            &mut self.names,
+            gone.as_slice(),
+            &self.stream,
+        );
         Ok(changed)
     }
 
@@ -295,21 +292,25 @@ impl Keeper {
         if message.to() != self.node.gateway().id() {
             return Err(HandFault::NotAddressed);
         }
-        let alloc = *self.names.allocator();
-        let none = Gateway::new(alloc, 0);
+        let none = Gateway::new(self.alloc, 0);
         let coming = carried(message, &none);
         if coming.len() == 0 {
             return self.node.hand(message);
         }
-        let ready = ready(
-            alloc,
+        let gone = ready(
+            self.alloc,
             self.node.gateway(),
-            &self.names,
+            &mut self.names,
             coming,
             &self.stream,
         )?;
         let answer = self.node.hand(message)?;
-        settle(&mut self.node, &mut self.names, ready, &self.stream);
+        settle(
+            &mut self.node,
+            &mut self.names,
+            gone.as_slice(),
+            &self.stream,
+        );
         Ok(answer)
     }
 
@@ -317,31 +318,34 @@ impl Keeper {
     fn is_late(&self, export: &Export) -> bool
         ensures { result ≡ is_named self.now.gateway.points export.now.writer export.now.start }
     {
-        has_name(self.names.as_slice(), export.writer(), export.start())
+        self.names.has(export.writer(), export.start())
     }
 
     /// Takes an export: joins its points, and forgets what a tombstone then names, but for tombstones. Of an export whose
     /// incarnation is named already at most tombstones stay: the answer is then `Late`.
     ///
-    /// It costs what `Node::take` does and a look-up, O(log t) of t names. Where a tombstone comes, or the export is late, it costs what
-    /// `merge` of a gateway with these points does. Refused with `NoMemory`, with nothing changed. An export without points changes
-    /// nothing and takes no memory.
+    /// It costs what `Node::take` does, a look-up, and a look at each point. Where a tombstone comes it costs what `merge` of a gateway
+    /// with these points does. Of a late export without tombstones nothing is joined: that takes no memory. Refused with `NoMemory`,
+    /// with nothing changed. An export without points changes nothing and takes no memory.
     pub fn take(&mut self, export: &Export) -> Result<Taking, NoMemory>
         ensures id { self.new.gateway.id ≡ self.old.gateway.id }
         ensures ok { OnOk result (self.new.gateway.points ≡ kept_points self.old.gateway.points (state (export.now ∷ []))) }
         ensures value { IfOk result (λ t. t ≡ taking (is_named self.old.gateway.points export.now.writer export.now.start)
             (changed_points self.old.gateway.points (join_points self.old.gateway.points (state (export.now ∷ []))))) }
-        ensures steps { OnOk result (JoinsAndDrops (state (export.now ∷ [])) self.old.acked self.old self.new) }
+        ensures steps { OnOk result (JoinsOrSkips (state (export.now ∷ [])) self.old.acked self.old self.new) }
         ensures unchanged { OnErr result (self.new ≡ self.old) }
         ensures no_points { export.now.points ≡ [] → IsOk result }
     {
         let late = self.is_late(export);
-        if !late && !brings_tombstone(export, &self.stream) {
-            let changed = self.node.take(export)?;
-            return Ok(taking_of(false, changed));
+        if brings_tombstone(export, &self.stream) {
+            let coming = points_of(self.alloc, export)?;
+            let changed = self.merge(&coming)?;
+            return Ok(taking_of(late, changed));
         }
-        let alloc = *self.names.allocator();
-        let changed = self.merge(&points_of(alloc, export)?)?;
-        Ok(taking_of(late, changed))
+        if late {
+            return Ok(Taking::Late);
+        }
+        let changed = self.node.take(export)?;
+        Ok(taking_of(false, changed))
     }
 }

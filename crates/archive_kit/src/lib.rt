@@ -33,6 +33,7 @@ mod held;
 mod keeper;
 mod laws;
 mod name;
+mod names;
 mod plan_refusal;
 mod planning;
 mod seal_refusal;

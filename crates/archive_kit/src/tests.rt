@@ -5,3 +5,4 @@ mod adopting;
 mod builders;
 mod keeping;
 mod planning;
+mod texts;

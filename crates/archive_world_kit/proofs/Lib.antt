@@ -1,6 +1,9 @@
 pub mod Adopted
+pub mod Alike
+pub mod Exactness
 pub mod Gossip
 pub mod Happening
+pub mod Instance
 pub mod Nodes
 pub mod Numbers
 pub mod Once
@@ -9,5 +12,8 @@ pub mod Reading
 pub mod Rows
 pub mod Services
 pub mod Shown
+pub mod Single
 pub mod Standing
+pub mod Texts
+pub mod Unmoved
 pub mod Weighing

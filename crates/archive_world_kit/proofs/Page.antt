@@ -159,7 +159,7 @@ module _ {N : Type 0} (h : History N) (sound : HasSoundRounds h) (told : HasIden
   ] refl
 
   -- what is fed has a name
-  named : (w : ℕ) (es : List N) (v : ItemKey × ℤ) → In v (fed w es) → In v.0 (r.names w es)
+  pub named : (w : ℕ) (es : List N) (v : ItemKey × ℤ) → In v (fed w es) → In v.0 (r.names w es)
   named w es v i =
       let nothing : Stream = record { scope = []; name = []; unit = []; shape = shapes.Sum true } in
       (weighed_added a fed feed 0 ◌+◌ count_sum (λ _. 0) (λ x y. refl) (λ v. refl) (λ _. 0) nothing tt

@@ -1,5 +1,5 @@
 -- An archive adopts of its own service, so asks count its keys as they count those of what it adopted.
-use Rattle.std.proofs.Common.{◌≡◌, ℕ, not, ◌&&◌, inl, inr, List, [], ◌∷◌, Option, Some, None, refl, sym, ap, subst, ◌∙◌}
+use Rattle.std.proofs.Common.{◌≡◌, ℕ, true, not, ◌&&◌, inl, inr, List, [], ◌∷◌, Option, Some, None, refl, sym, ap, subst, ◌∙◌}
 use Rattle.attr_kit.proofs.Firsts.{none_of, when_none}
 use Rattle.attr_kit.specs.Exact.{exact_texts}
 use Rattle.attr_kit.specs.contracts.txt.TxtPartialEq.TheImpl as texts
@@ -7,6 +7,7 @@ use Rattle.archive_kit.specs.Archive.{ArchiveState, early_faults}
 use Rattle.archive_kit.specs.declared.adopt_fault.AdoptFault.TheVariants as faults
 use Rattle.archive_kit.specs.Driving.{Adoption, AreAccepted, Call, driven, since_sealed}
 use Rattle.archive_kit.specs.Driving.Call.{Adopt, Export, Seal}
+use Rattle.archive_kit.specs.Adopting.{Counted}
 use Rattle.archive_kit.specs.Written.{adoption_of}
 use Rattle.archive_kit.proofs.Driving.{early_none}
 use Rattle.archive_kit.proofs.Naming.{is_so}
@@ -50,12 +51,17 @@ of_one_service : (o : Option (List ℕ)) (v w : WriterId) → v.service ≡ w.se
 of_one_service None v w e = refl
 of_one_service (Some service) v w e = ap (λ t. (texts.ghosts).eq t service) e
 
-pub are_asked : {N : Type 0} (h : History N) (a : Archives h) (ask : Ask) → AreAsked h.writing (telling a) (asks ask) (group ask)
-are_asked h a ask = record {
-  asked = λ b start es c x e i.
+module _ {N : Type 0} (h : History N) (a : Archives h) where
+  pub adopted_service : (b : ℕ) (es : List N) (c : Counted N) → a.is_archive (h.writing.who b) ≡ true → In c (a.adoptions b es)
+      → (h.writing.who b).service ≡ (h.writing.who c.0.0).service
+  adopted_service b es c e i =
       let d = a.are.driven.each b es e in
       let there = subst (λ (l : List Adoption). In (adoption_of (rounding h.writing) a.held b c) l) d.adopts (In-map (adoption_of (rounding h.writing) a.held b) c (a.adoptions b es) i) in
-      let service = adopted_of_service _ d.calls d.accepted (adoption_of (rounding h.writing) a.held b c) there in
-      ap (λ t. stream_eq ask.stream x.0 && (t && has_pairs ask.only x.1)) (of_one_service ask.service (h.writing.who b) (h.writing.who c.0.0) service);
-  grouped = λ b start es c x e i. refl;
-}
+      adopted_of_service _ d.calls d.accepted (adoption_of (rounding h.writing) a.held b c) there
+
+  pub are_asked : (ask : Ask) → AreAsked h.writing (telling a) (asks ask) (group ask)
+  are_asked ask = record {
+    asked = λ b start es c x e i.
+        ap (λ t. stream_eq ask.stream x.0 && (t && has_pairs ask.only x.1)) (of_one_service ask.service (h.writing.who b) (h.writing.who c.0.0) (adopted_service b es c e i));
+    grouped = λ b start es c x e i. refl;
+  }

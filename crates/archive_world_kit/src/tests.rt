@@ -7,10 +7,10 @@ ghost use Rattle.gossip_kit.specs.Gossip.{acked_after, answer_of};
 ghost use Rattle.point_kit.specs.Exports.{state};
 
 use crate::{
-    archives_are_asked_as_adopted, archives_change_no_answer, forgetting_loses_nothing,
-    held_collections_tell_what_was_fed, incarnations_are_adopted_once, nodes_count_adopted_once,
-    nodes_hold_newest_collections, nodes_show_what_they_took, pages_count_adopted_once,
-    payloads_add_up, rows_count_adopted_once,
+    archives_are_asked_as_adopted, archives_change_no_answer, archives_change_no_page,
+    forgetting_loses_nothing, held_collections_tell_what_was_fed, incarnations_are_adopted_once,
+    nodes_count_adopted_once, nodes_hold_newest_collections, nodes_show_what_they_took,
+    pages_count_adopted_once, payloads_add_up, rows_count_adopted_once,
 };
 use archive_kit::{Archive, Keeper};
 use attr_kit::{AttrSet, NoMemory, Seq, Txt};
@@ -163,6 +163,7 @@ fn laws_can_be_called(rt: HostRuntime) -> Result<(), Fail> {
     archives_are_asked_as_adopted::<u64>();
     rows_count_adopted_once::<u64>();
     archives_change_no_answer::<u64, u64, u64>();
+    archives_change_no_page::<u64>();
     incarnations_are_adopted_once::<u64>();
     pages_count_adopted_once::<u64>();
     assert_eq!(rt;

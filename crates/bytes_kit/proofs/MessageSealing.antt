@@ -7,7 +7,7 @@ use Rattle.point_kit.specs.Orders.{key_cmp}
 use Rattle.point_kit.specs.declared.cell.Cell.{Cell}
 use Rattle.point_kit.specs.declared.export_fault.ExportFault.{ExportFault}
 use Rattle.point_kit.specs.declared.payload.Payload.{Payload}
-use Rattle.bytes_kit.specs.MessageFits.{IsOneOf, IsSoundPoints, carried_fault}
+use Rattle.bytes_kit.specs.MessageFits.{IsMessage, IsMessageFields, IsOneOf, IsSoundPoints, carried_fault}
 use Rattle.bytes_kit.specs.Messages.{MessageFields, message_fields, body_bytes_of, fields_of_message, bytes_of_message, bytes_of_message_fields, message_head}
 use Rattle.bytes_kit.specs.MessageLaws.{message_fields_code}
 use Rattle.bytes_kit.specs.declared.carried.Carried.{Carried}
@@ -75,6 +75,9 @@ view_bytes m bytes from to points d a c is_view is has = ap bytes_of_message is_
 
 pub view_sound : (m : MessageModel) (from to : ℕ) (points : Points) (d a : Option ℕ) (c : Carried) → m ≡ view from to points d a → IsOneOf points d a → body_bytes_of points d a ≡ c → carried_fault c ≡ None → IsSoundPoints m.points
 view_sound m from to points d a c is_view h is none = subst (λ (x : MessageModel). IsSoundPoints x.points) (sym is_view) (sound_carried points d a h (ap carried_fault is ∙ none))
+
+pub view_fits : (m : MessageModel) (from to : ℕ) (points : Points) (d a : Option ℕ) (c : Carried) → m ≡ view from to points d a → IsOneOf points d a → body_bytes_of points d a ≡ c → IsMessageFields (three from to c) → IsMessage m
+view_fits m from to points d a c is_view h is fit = subst IsMessage (sym is_view) (subst IsMessageFields (sym (ap (three from to) is)) fit, h)
 
 pub view_is : (m n : MessageModel) (from to : ℕ) (points : Points) (d a : Option ℕ) (c : Carried) → m ≡ view from to points d a → IsOneOf points d a → body_bytes_of points d a ≡ c → IsOneOf n.points n.delta n.ack → three from to c ≡ fields_of_message n → m ≡ n
 view_is m n from to points d a c is_view h is k same = is_view ∙ same_message (view from to points d a) n h k (ap (three from to) is ∙ same)

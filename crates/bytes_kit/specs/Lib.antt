@@ -1,6 +1,7 @@
 pub mod Checksum
 pub mod Codes
 pub mod Explaining
+pub mod FaultTexts
 pub mod Faults
 pub mod Fits
 pub mod Format

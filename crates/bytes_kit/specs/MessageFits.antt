@@ -59,12 +59,6 @@ IsCarried (bodies.Ack number) = IsNumber number
 abbrev pub IsMessageFields : MessageFields → Type 0
 IsMessageFields s = IsId s.0 × (IsId s.1 × IsCarried s.2)
 
--- the keys of what is carried rise
-abbrev pub IsInOrder : Carried → Type 0
-IsInOrder (bodies.Whole es) = is_sorted key_cmp es ≡ true
-IsInOrder (bodies.Delta number es) = is_sorted key_cmp es ≡ true
-IsInOrder (bodies.Ack number) = Unit {0}
-
 -- an Ack carries no cells and is no delta
 abbrev pub IsOneOf : Points → Option ℕ → Option ℕ → Type 0
 IsOneOf points delta (Some number) = (points ≡ empty) × (delta ≡ None)

@@ -5,7 +5,7 @@ ghost use Rattle.std.specs.FinMap.Entries.{is_sorted};
 ghost use Rattle.gossip_kit.specs.Bodies.{cells_of, delta_of, ack_of};
 ghost use Rattle.point_kit.specs.Orders.{key_cmp};
 ghost use Rattle.bytes_kit.specs.Explaining.{IsReadFault};
-ghost use Rattle.bytes_kit.specs.MessageFits.{IsCarried, IsInOrder, IsOneOf, carried_fault};
+ghost use Rattle.bytes_kit.specs.MessageFits.{IsCarried, IsOneOf, carried_fault};
 ghost use Rattle.bytes_kit.specs.Messages.{body_bytes, body_bytes_of};
 ghost use Rattle.bytes_kit.specs.Reading.{Reads};
 
@@ -59,7 +59,7 @@ impl Carried {
     /// What comes next.
     pub(crate) fn read(reader: &mut Reader<'_>) -> Result<Carried, DecodeFault>
         ensures found { Reads body_bytes IsCarried reader.old.rest result reader.new.rest }
-        ensures sorted { IfOk result IsInOrder }
+        ensures value { IfOk result IsCarried }
         ensures end { reader.new.end ≡ reader.old.end }
         ensures fault { IfErr result (IsReadFault reader.old.end) }
     {
@@ -89,7 +89,7 @@ impl Carried {
 
     /// The body: a gateway of an id with these cells.
     pub(crate) fn into_body(self, alloc: Global, id: u32) -> Result<Body, NoMemory>
-        requires { IsInOrder self }
+        requires { IsCarried self }
         ensures value { IfOk result (λ b. body_bytes_of (cells_of b) (delta_of b) (ack_of b) ≡ self) }
         ensures one { IfOk result (λ b. IsOneOf (cells_of b) (delta_of b) (ack_of b)) }
     {

@@ -1,5 +1,5 @@
 //! Cells under their keys, in the order of the keys.
-ghost use Rattle.std.specs.Prelude.{◌≡◌, ◌++◌, length, true, IfErr, IfOk, OnOk};
+ghost use Rattle.std.specs.Prelude.{◌≡◌, ◌++◌, length, IfErr, IfOk, OnOk};
 ghost use Rattle.std.specs.FinMap.Entries.{is_sorted};
 ghost use Rattle.gateway_kit.specs.Walks.{keyed_cell_of_ref, points_left};
 ghost use Rattle.point_kit.specs.Orders.{key_cmp};
@@ -139,6 +139,8 @@ fn read_entry(
     history: &mut History,
 ) -> Result<(Key, Cell), DecodeFault>
     ensures found { Reads (entry (history.old, last_key earlier.now)) IsEntry reader.old.rest result reader.new.rest }
+    ensures key { IfOk result (λ e. IsKeyRest (common (last_key earlier.now) e.0) e.0) }
+    ensures cell { IfOk result (λ e. IsCell e.1) }
     ensures history { IfOk result (λ e. history.new ≡ past_key (history.old, last_key earlier.now) e.0) }
     ensures end { reader.new.end ≡ reader.old.end }
     ensures fault { IfErr result (IsReadFault reader.old.end) }
@@ -151,6 +153,7 @@ fn read_entry(
 // So many cells, each behind the one before it.
 fn read_listed(reader: &mut Reader<'_>) -> Result<Seq<(Key, Cell)>, DecodeFault>
     ensures found { Reads cells IsListed reader.old.rest result reader.new.rest }
+    ensures value { IfOk result IsListed }
     ensures end { reader.new.end ≡ reader.old.end }
     ensures fault { IfErr result (IsReadFault reader.old.end) }
 {
@@ -175,7 +178,7 @@ fn rises(entries: &[(Key, Cell)]) -> bool
 /// The cells that come next, in the order of their keys.
 pub(crate) fn read_cells(reader: &mut Reader<'_>) -> Result<Seq<(Key, Cell)>, DecodeFault>
     ensures found { Reads cells IsCells reader.old.rest result reader.new.rest }
-    ensures sorted { IfOk result (λ es. is_sorted key_cmp es ≡ true) }
+    ensures value { IfOk result IsCells }
     ensures end { reader.new.end ≡ reader.old.end }
     ensures fault { IfErr result (IsReadFault reader.old.end) }
 {

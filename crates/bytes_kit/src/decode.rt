@@ -68,6 +68,7 @@ fn read_written(
     reader: &mut Reader<'_>,
 ) -> Result<(WriterId, (u64, (u64, Seq<ExportPoint>))), DecodeFault>
     ensures found { Reads fields IsFields reader.old.rest result reader.new.rest }
+    ensures value { IfOk result IsFields }
     ensures end { reader.new.end ≡ reader.old.end }
     ensures fault { IfErr result (IsReadFault reader.old.end) }
 {
@@ -81,6 +82,7 @@ fn read_fields(
     bytes: &[u8],
 ) -> Result<(WriterId, (u64, (u64, Seq<ExportPoint>))), DecodeFault>
     ensures ok { IfOk result (λ p. bytes.now ≡ bytes_of_fields p) }
+    ensures value { IfOk result IsFields }
     ensures err { IfErr result (λ f. f ≢ faults.NoMemory → (p : Fields) → IsFields p → bytes.now ≢ bytes_of_fields p) }
     ensures fault { IfErr result (λ f. IsFieldsFault head fields bytes.now f) }
 {
@@ -92,16 +94,18 @@ fn read_fields(
     Ok(fields)
 }
 
-/// The export whose bytes these are, in the one form that docs/BYTES.md tells.
+/// The export whose bytes these are, in the one form that docs/design/BYTES.md tells.
 ///
 /// What is read is sound as `Export::build` has it. A fault other than `NoMemory` comes only where these are the bytes of
-/// no export. O(n) in the bytes, whatever they are, as docs/BYTES.md counts it ("Time."): texts that are new are looked up,
+/// no export. O(n) in the bytes, whatever they are, as docs/design/BYTES.md counts it ("Time."): texts that are new are looked up,
 /// and `Export::build` puts the hashes of keys in order. Memory for at most a fixed number of values for each byte: a
 /// number of values or bytes is compared with the bytes that are left before it is used, and [`crate::weighs_no_more`] says
 /// what is held in the end.
 pub fn decode_export(alloc: Global, bytes: &[u8]) -> Result<Export, DecodeFault>
     // What is read has these bytes.
     ensures ok { IfOk result (λ e. bytes_of e ≡ bytes.now) }
+    // It is an export: its numbers have the sizes of their types, and its texts are UTF-8.
+    ensures value { IfOk result IsExport }
     // What each fault says of the bytes.
     ensures fault { IfErr result (Explains bytes.now) }
     // The export that has these bytes is read, or there is no memory.

@@ -50,7 +50,7 @@ fn write_sealed(export: &Export, out: &mut Vec<u8>) -> Result<(), NoMemory>
 
 /// Makes the bytes of an export in a buffer. What the buffer held is gone; its memory is used again.
 ///
-/// Each export has one form, told in docs/BYTES.md, and [`crate::decode_export`] gives the export back of it: that asks for
+/// Each export has one form, told in docs/design/BYTES.md, and [`crate::decode_export`] gives the export back of it: that asks for
 /// values of the sizes that the types have, which `value` says of every export that was written. Refused only where memory
 /// is; the buffer is then empty. O(n) in the bytes, and a look-up for each text but those that came of late; beside the
 /// buffer memory for each text of at most 64 bytes that comes, once.

@@ -4,36 +4,53 @@ ghost use Rattle.std.specs.Prelude.{◌≡◌};
 use attr_kit::NoMemory;
 use point_kit::ExportFault;
 use std::alloc::{AllocError, AllocFailed};
+use std::fmt;
 use thiserror::Error;
 
 /// Why bytes are no export, or no message. A place counts bytes from 0; for `Truncated` it is the number of bytes.
 #[derive(Clone, Copy, Debug, PartialEq, Eq, Error)]
 pub enum DecodeFault {
     /// The bytes end within the export or the message.
-    #[error("the bytes end at {0}, too early")]
     Truncated(usize),
     /// The bytes do not begin as those of an export do, or of a message.
-    #[error("byte {0} is not that of what is read")]
     BadMagic(usize),
     /// The version is not one that is known here.
-    #[error("the version at byte {0} is not known")]
     BadVersion(usize),
     /// The value at this place is written so by none: a number in more bytes than it wants, a tag or the number of a text that
     /// there is not, a text or a stream that came before and is written again, keys that do not rise, or bytes behind the end.
-    #[error("the value at byte {0} is not in its one form")]
     NotCanonical(usize),
     /// The text at this place is not UTF-8.
-    #[error("the text at byte {0} is not UTF-8")]
     NotText(usize),
     /// The checksum at this place is not that of the bytes before it.
-    #[error("the checksum at byte {0} is not that of the bytes before it")]
     BadChecksum(usize),
     /// The values make no export; or a cell of a message is one that no export brings, for this reason.
-    #[error("{0}")]
     BadExport(ExportFault),
     /// Memory was refused.
-    #[error("no memory")]
     NoMemory,
+}
+
+impl fmt::Display for DecodeFault {
+    ghost use Rattle.bytes_kit.specs.FaultTexts.{decode_text};
+
+    ghost output = { λ fault. decode_text fault };
+
+    fn fmt<W: fmt::Write>(&self, f: &mut fmt::Formatter<W>) -> fmt::Result {
+        match self {
+            DecodeFault::Truncated(place) => write!(f, "the bytes end at {place}, too early"),
+            DecodeFault::BadMagic(place) => write!(f, "byte {place} is not that of what is read"),
+            DecodeFault::BadVersion(place) => write!(f, "the version at byte {place} is not known"),
+            DecodeFault::NotCanonical(place) => {
+                write!(f, "the value at byte {place} is not in its one form")
+            }
+            DecodeFault::NotText(place) => write!(f, "the text at byte {place} is not UTF-8"),
+            DecodeFault::BadChecksum(place) => write!(
+                f,
+                "the checksum at byte {place} is not that of the bytes before it"
+            ),
+            DecodeFault::BadExport(fault) => write!(f, "{fault}"),
+            DecodeFault::NoMemory => write!(f, "no memory"),
+        }
+    }
 }
 
 impl From<NoMemory> for DecodeFault {

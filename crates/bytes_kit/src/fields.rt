@@ -16,9 +16,9 @@ ghost use Rattle.bytes_kit.specs.declared.fault.DecodeFault.TheVariants as fault
 use crate::DecodeFault;
 use crate::history::History;
 use crate::passage::Passage;
-use crate::passages::{text_is_utf8, write_list_behind};
+use crate::passages::write_list_behind;
 use crate::piece::Piece;
-use crate::pieces::{read_counted, to_zigzag};
+use crate::pieces::{read_counted, text_is_utf8, to_zigzag};
 use crate::reader::Reader;
 use crate::writer::write_counted;
 use attr_kit::{AttrSet, AttrValue, NoMemory, Seq, Txt};
@@ -243,6 +243,7 @@ fn read_other(
     requires { place ≤ reader.old.end }
     ensures ok { IfOk result (λ s. reader.old.rest ≡ stream history.old s ++ reader.new.rest) }
     ensures other { IfOk result (λ s. is_last history.old.stream s ≡ false) }
+    ensures value { IfOk result IsStream }
     ensures history { IfOk result (λ s. history.new ≡ with_stream (past_stream history.old s) s) }
     ensures err { IfErr result (λ f. f ≢ faults.NoMemory → NoneAt (stream history.old) (IsOtherStream history.old) reader.old.rest) }
     ensures end { reader.new.end ≡ reader.old.end }

@@ -191,7 +191,8 @@ impl History {
 
     /// The stream that came last, if it was light.
     pub(crate) fn last(&self) -> Result<Option<SharedStream>, NoMemory>
-        ensures { IfOk result (λ last. last ≡ self.now.stream) }
+        ensures value { IfOk result (λ last. last ≡ self.now.stream) }
+        ensures fits { IfOk result (λ last. IfSome last IsStream) }
     {
         match &self.stream {
             Some(stream) => Ok(Some(stream.try_copy()?)),

@@ -105,6 +105,7 @@ fn read_shared(reader: &mut Reader<'_>) -> Result<Shared, DecodeFault>
 // A key of which nothing is known.
 fn read_whole(reader: &mut Reader<'_>, history: &mut History) -> Result<Key, DecodeFault>
     ensures found { Reads (key_rest history.old Shared.Nothing) IsKey reader.old.rest result reader.new.rest }
+    ensures value { IfOk result IsKey }
     ensures history { IfOk result (λ k. history.new ≡ past_rest history.old Shared.Nothing k) }
     ensures end { reader.new.end ≡ reader.old.end }
     ensures fault { IfErr result (IsReadFault reader.old.end) }
@@ -127,6 +128,7 @@ fn read_stream(
     history: &mut History,
 ) -> Result<Key, DecodeFault>
     ensures found { Reads (key_rest history.old Shared.Incarnation) IsKey reader.old.rest result reader.new.rest }
+    ensures value { IfOk result (IsKeyRest Shared.Incarnation) }
     ensures history { IfOk result (λ k. history.new ≡ past_rest history.old Shared.Incarnation k) }
     ensures inherits { IfOk result (Inherits (key_before (Some before.entry)) Shared.Incarnation) }
     ensures end { reader.new.end ≡ reader.old.end }
@@ -148,6 +150,7 @@ fn read_attrs(
     history: &mut History,
 ) -> Result<Key, DecodeFault>
     ensures found { Reads (key_rest history.old Shared.Stream) IsKey reader.old.rest result reader.new.rest }
+    ensures value { IfOk result (IsKeyRest Shared.Stream) }
     ensures history { IfOk result (λ k. history.new ≡ past_rest history.old Shared.Stream k) }
     ensures inherits { IfOk result (Inherits (key_before (Some before.entry)) Shared.Stream) }
     ensures end { reader.new.end ≡ reader.old.end }
@@ -170,6 +173,7 @@ fn read_rest(
     history: &mut History,
 ) -> Result<Key, DecodeFault>
     ensures ok { IfOk result (λ k. reader.old.rest ≡ key_rest history.old shared k ++ reader.new.rest) }
+    ensures value { IfOk result (IsKeyRest shared) }
     ensures history { IfOk result (λ k. history.new ≡ past_rest history.old shared k) }
     ensures inherits { IfOk result (Inherits (key_before before.entry) shared) }
     ensures err { IfErr result
@@ -192,6 +196,7 @@ pub(crate) fn read_key(
     history: &mut History,
 ) -> Result<Key, DecodeFault>
     ensures found { Reads (key (history.old, key_before before.entry)) IsKey reader.old.rest result reader.new.rest }
+    ensures value { IfOk result (λ k. IsKeyRest (common (key_before before.entry) k) k) }
     ensures history { IfOk result (λ k. history.new ≡ past_key (history.old, key_before before.entry) k) }
     ensures end { reader.new.end ≡ reader.old.end }
     ensures fault { IfErr result (IsReadFault reader.old.end) }

@@ -11,9 +11,9 @@
 //!     let export = decode_export(alloc, bytes)?;
 //!     Ok(gateway.take(&export)?)
 //!
-//! docs/BYTES.md tells the format byte by byte. What contracts cite stands in `specs/`: `Format` and `Messages` (the one form of
+//! docs/design/BYTES.md tells the format byte by byte. What contracts cite stands in `specs/`: `Format` and `Messages` (the one form of
 //! each value), `Past` (what came before it), `Fits` and `MessageFits` (which values there are), `Codes` (forms that no two values
-//! share), `Reading` (what a reader answers) and `Weights` (how much is held).
+//! share), `Reading` (what a reader answers), `Weights` (how much is held) and `FaultTexts` (what a fault prints).
 #![tactic(auto)]
 
 mod carried;

@@ -2,7 +2,7 @@
 ghost use Rattle.std.specs.Prelude.{◌≡◌, ◌≢◌, ◌++◌, [], IfErr, IfOk, OnErr, OnOk};
 ghost use Rattle.gossip_kit.specs.Views.{MessageModel};
 ghost use Rattle.bytes_kit.specs.Explaining.{ExplainsMessage, IsFieldsFault};
-ghost use Rattle.bytes_kit.specs.MessageFits.{GivesMessage, IsInOrder, IsMessage, IsMessageFields, IsSoundPoints};
+ghost use Rattle.bytes_kit.specs.MessageFits.{GivesMessage, IsMessage, IsMessageFields, IsSoundPoints};
 ghost use Rattle.bytes_kit.specs.Messages.{MessageFields, bytes_of_message, bytes_of_message_fields, message_head, message_fields, fields_of_message};
 ghost use Rattle.bytes_kit.specs.Explaining.{IsReadFault};
 ghost use Rattle.bytes_kit.specs.Reading.{Reads};
@@ -45,7 +45,7 @@ fn write_sealed(message: &Message, out: &mut Vec<u8>) -> Result<(), NoMemory>
 
 /// Makes the bytes of a message in a buffer. What the buffer held is gone; its memory is used again.
 ///
-/// Each message has one form, told in docs/BYTES.md: of two whose sender, receiver, number and cells are equal the bytes
+/// Each message has one form, told in docs/design/BYTES.md: of two whose sender, receiver, number and cells are equal the bytes
 /// are equal. [`decode_message`] gives the message back of it where each cell is one that an export can bring, as all cells
 /// are that came by exports. Refused only where memory is; the buffer is then empty. O(n) in the bytes, and a look-up for
 /// each text but those that came of late; beside the buffer memory for each text of at most 64 bytes that comes, once.
@@ -75,7 +75,7 @@ pub fn encode_message(alloc: Global, message: &Message) -> Result<Vec<u8>, NoMem
 // Sender, receiver and what is carried.
 fn read_fields(reader: &mut Reader<'_>) -> Result<(u32, u32, Carried), DecodeFault>
     ensures found { Reads message_fields IsMessageFields reader.old.rest result reader.new.rest }
-    ensures sorted { IfOk result (λ s. IsInOrder s.2) }
+    ensures value { IfOk result IsMessageFields }
     ensures end { reader.new.end ≡ reader.old.end }
     ensures fault { IfErr result (IsReadFault reader.old.end) }
 {
@@ -88,7 +88,7 @@ fn read_fields(reader: &mut Reader<'_>) -> Result<(u32, u32, Carried), DecodeFau
 // The same of all bytes, between head and checksum.
 fn read_message(alloc: Global, bytes: &[u8]) -> Result<(u32, u32, Carried), DecodeFault>
     ensures ok { IfOk result (λ s. bytes.now ≡ bytes_of_message_fields s) }
-    ensures sorted { IfOk result (λ s. IsInOrder s.2) }
+    ensures value { IfOk result IsMessageFields }
     ensures err { IfErr result (λ f. f ≢ faults.NoMemory → (s : MessageFields) → IsMessageFields s
         → bytes.now ≢ bytes_of_message_fields s) }
     ensures fault { IfErr result (λ f. IsFieldsFault message_head message_fields bytes.now f) }
@@ -101,18 +101,20 @@ fn read_message(alloc: Global, bytes: &[u8]) -> Result<(u32, u32, Carried), Deco
     Ok(fields)
 }
 
-/// The message whose bytes these are, in the one form that docs/BYTES.md tells.
+/// The message whose bytes these are, in the one form that docs/design/BYTES.md tells.
 ///
 /// Each cell of what is read is one that an export can bring. A fault other than `NoMemory` comes only where these are the
 /// bytes of no such message; `BadExport` has the reason of the first cell that no export brings, at its place among the
-/// cells. Who made the bytes is not known here: see docs/BYTES.md for what a node should check of a sender.
+/// cells. Who made the bytes is not known here: see docs/design/BYTES.md for what a node should check of a sender.
 ///
 /// O(n) in the bytes, and O(n log n) comparisons at the worst, whatever they are: of texts that are new, and of keys for each
-/// cell. Memory for at most as many cells as there are bytes: a number of cells, values or bytes is compared with the bytes that are left before
-/// it is used, and [`crate::weighs_no_more`] says what is held in the end.
+/// cell. Memory for at most as many cells as there are bytes: a number of cells, values or bytes is compared with the bytes that are left
+/// before it is used, and [`crate::weighs_no_more`] says what is held in the end.
 pub fn decode_message(alloc: Global, bytes: &[u8]) -> Result<Message, DecodeFault>
     // What is read has these bytes.
     ensures ok { IfOk result (λ m. bytes_of_message m ≡ bytes.now) }
+    // It is a message: its numbers have the sizes of their types, its texts are UTF-8, its keys rise, and an Ack carries nothing.
+    ensures value { IfOk result IsMessage }
     // Each of its cells is one that an export can bring.
     ensures sound { IfOk result (λ m. IsSoundPoints m.points) }
     // What each fault says of the bytes.

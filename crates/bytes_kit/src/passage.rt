@@ -30,6 +30,7 @@ pub(crate) trait Passage: Sized + Drop {
     /// Reads the value whose form comes next.
     fn read_behind(reader: &mut Reader<'_>, history: &mut History) -> Result<Self, DecodeFault>
         ensures found { Reads (code history.old) is_value reader.old.rest result reader.new.rest }
+        ensures value { IfOk result is_value }
         ensures history { IfOk result (λ x. history.new ≡ past history.old x) }
         ensures end { reader.new.end ≡ reader.old.end }
         ensures fault { IfErr result (IsReadFault reader.old.end) };

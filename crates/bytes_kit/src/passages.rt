@@ -14,7 +14,7 @@ use crate::DecodeFault;
 use crate::history::History;
 use crate::passage::Passage;
 use crate::piece::Piece;
-use crate::pieces::room;
+use crate::pieces::{room, text_is_utf8};
 use crate::reader::Reader;
 use attr_kit::{NoMemory, Seq, Txt};
 
@@ -27,6 +27,7 @@ fn read_new(
     requires { place ≤ reader.old.end }
     ensures ok { IfOk result (λ t. reader.old.rest ≡ text t ++ reader.new.rest) }
     ensures new { IfOk result (λ t. place_of history.old.texts t ≡ None) }
+    ensures value { IfOk result IsText }
     ensures history { IfOk result (λ t. history.new ≡ past_text history.old t) }
     ensures err { IfErr result (λ f. f ≢ faults.NoMemory → NoneAt text (IsNewText history.old) reader.old.rest) }
     ensures end { reader.new.end ≡ reader.old.end }
@@ -37,13 +38,6 @@ fn read_new(
         return Err(DecodeFault::NotCanonical(place));
     }
     Ok(text)
-}
-
-// A text is in UTF-8, and as long as a number can say. Does nothing.
-pub(crate) fn text_is_utf8(text: &Txt)
-    ensures { IsText text.now }
-{
-    text.as_str().as_bytes();
 }
 
 impl Passage for Txt {
@@ -72,7 +66,10 @@ impl Passage for Txt {
             return read_new(place, reader, history);
         }
         match history.text_at(number - 1) {
-            Some(text) => Ok(text.try_copy()?),
+            Some(text) => {
+                text_is_utf8(text);
+                Ok(text.try_copy()?)
+            }
             None => Err(DecodeFault::NotCanonical(place)),
         }
     }

@@ -1,5 +1,5 @@
 //! What has a form.
-ghost use Rattle.std.specs.Prelude.{◌≡◌, ◌<◌, ◌++◌, List, ℕ, length, IfErr, OnOk};
+ghost use Rattle.std.specs.Prelude.{◌≡◌, ◌<◌, ◌++◌, List, ℕ, length, IfErr, IfOk, OnOk};
 ghost use Rattle.bytes_kit.specs.Codes.{IsCode};
 ghost use Rattle.bytes_kit.specs.Explaining.{IsReadFault};
 ghost use Rattle.bytes_kit.specs.Reading.{Reads};
@@ -24,6 +24,7 @@ pub(crate) trait Piece: Sized + Drop {
     /// Reads the value whose form comes next.
     fn read(reader: &mut Reader<'_>) -> Result<Self, DecodeFault>
         ensures found { Reads code is_value reader.old.rest result reader.new.rest }
+        ensures value { IfOk result is_value }
         ensures end { reader.new.end ≡ reader.old.end }
         ensures fault { IfErr result (IsReadFault reader.old.end) };
 

@@ -14,9 +14,17 @@ use crate::reader::Reader;
 use crate::writer::{write_counted, write_groups, write_list};
 use attr_kit::{NoMemory, Seq, Txt};
 
+// A text is in UTF-8, and as long as a number can say. Does nothing.
+pub(crate) fn text_is_utf8(text: &Txt)
+    ensures { IsText text.now }
+{
+    text.as_str().as_bytes();
+}
+
 // A number in groups of seven bits, the lowest first, at most so many with their top bit set.
 fn read_groups(reader: &mut Reader<'_>, more: u32) -> Result<u64, DecodeFault>
     ensures found { Reads (groups more) IsNumber reader.old.rest result reader.new.rest }
+    ensures value { IfOk result IsNumber }
     ensures end { reader.new.end ≡ reader.old.end }
     ensures fault { IfErr result (IsReadFault reader.old.end) }
 {
@@ -153,7 +161,11 @@ impl Piece for Txt {
         let alloc = reader.alloc();
         let bytes = read_counted(reader)?;
         match str::from_utf8(bytes) {
-            Ok(text) => Ok(Txt::from_str(alloc, text)?),
+            Ok(text) => {
+                let text = Txt::from_str(alloc, text)?;
+                text_is_utf8(&text);
+                Ok(text)
+            }
             Err(_) => Err(DecodeFault::NotText(place)),
         }
     }

@@ -1,8 +1,8 @@
-//! Where a stream stands that is too long to be shared. docs/BYTES.md's worked examples and each refusal are shown elsewhere
-//! (docs/log/tests.md).
+//! Where a stream stands that is too long to be shared, and texts of which no clause speaks. docs/design/BYTES.md's worked examples and each
+//! refusal are shown by tests/sdk and tests/files.
 use super::*;
 use attr_kit::{AttrSet, AttrValue, NoMemory, Seq, Txt};
-use point_kit::{Export, ExportPoint, Payload, Shape, SharedStream, Stream, WriterId};
+use point_kit::{Export, ExportFault, ExportPoint, Payload, Shape, SharedStream, Stream, WriterId};
 use std::alloc::Global;
 use std::test::Fail;
 use uuid::Uuid;
@@ -60,7 +60,7 @@ fn changed(
     Ok(decode_export(alloc, bytes.as_slice()).err())
 }
 
-// The bytes are those of docs/BYTES.md's example, 88, with another scope. The second point shares a stream whose scope has 64
+// The bytes are those of docs/design/BYTES.md's example, 88, with another scope. The second point shares a stream whose scope has 64
 // bytes. One of 65 it has again: 1 and the scope, and name, unit and shape in a byte each, in place of the one byte.
 #[test]
 fn a_long_stream_stands_at_each_point(rt: HostRuntime) -> Result<(), Fail> {
@@ -80,5 +80,46 @@ fn a_long_stream_stands_at_each_point(rt: HostRuntime) -> Result<(), Fail> {
     let bytes = encode_export(alloc, &sold(alloc, long)?)?;
     let fault = changed(alloc, bytes.as_slice(), 126, 0)?;
     assert_eq!(rt; fault, Some(DecodeFault::NotCanonical(126)));
+    Ok(())
+}
+
+// A fault of building an export prints the text of its own, which no clause states: here each of them, whole.
+#[test]
+fn a_fault_of_building_prints_its_own_text(rt: HostRuntime) -> Result<(), Fail> {
+    let alloc = rt.alloc();
+    for (fault, text) in [
+        (
+            ExportFault::TimeNotAfterStart,
+            "the time is not after the start",
+        ),
+        (
+            ExportFault::KeyTwice(1),
+            "point 1 has the key of an earlier point",
+        ),
+        (
+            ExportFault::WrongShape(20),
+            "the payload of point 20 is not of its stream's shape",
+        ),
+        (
+            ExportFault::BucketCount(300),
+            "point 300 has not one bucket more than bounds",
+        ),
+        (
+            ExportFault::CountMismatch(0),
+            "the buckets of point 0 do not add up to its count",
+        ),
+        (
+            ExportFault::NegativeTotal(7),
+            "the total of point 7 is below 0",
+        ),
+        (
+            ExportFault::BadRange(9),
+            "the range of point 9 is not one of its values",
+        ),
+        (ExportFault::NoMemory, "no memory"),
+    ] {
+        let printed = DecodeFault::BadExport(fault).to_string(alloc)?;
+        assert_eq!(rt; printed.as_str(), text);
+    }
     Ok(())
 }

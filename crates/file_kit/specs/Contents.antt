@@ -7,7 +7,7 @@ use Rattle.archive_kit.specs.Tombstones.{names_key}
 use Rattle.bytes_kit.specs.Explaining as explaining
 use Rattle.bytes_kit.specs.Fits.{IsExport}
 use Rattle.bytes_kit.specs.Format.{bytes_of}
-use Rattle.bytes_kit.specs.MessageFits.{IsId, IsMessage, IsOneOf, IsSoundPoints}
+use Rattle.bytes_kit.specs.MessageFits.{IsMessage, IsSoundPoints}
 use Rattle.bytes_kit.specs.Messages.{bytes_of_message}
 use Rattle.bytes_kit.specs.declared.fault.DecodeFault.{DecodeFault}
 use Rattle.bytes_kit.specs.declared.fault.DecodeFault.TheVariants as faults
@@ -22,20 +22,15 @@ abbrev pub form : Content → List ℕ
 form (content.Export e) = bytes_of e
 form (content.Message m) = bytes_of_message m
 
--- what every export and every message is: its numbers have the sizes of their types, and each cell is one that an export can bring
+-- what every export and every message is: its numbers have the sizes of their types, its texts are UTF-8, and each cell is one that an export can bring.
+-- So of the same bytes there are no two.
 abbrev pub IsContent : Content → Type 0
 IsContent (content.Export e) = IsExport e
 IsContent (content.Message m) = IsMessage m × IsSoundPoints m.points
 
--- what is known of each that is read. An export is sound as all are. Of a message the ids are numbers of 32 bits, an Ack carries no cells, and each cell is
--- one that an export can bring. So of the same bytes there are no two.
-abbrev pub IsKnown : Content → Type 0
-IsKnown (content.Export e) = Unit {0}
-IsKnown (content.Message m) = IsId m.from × IsId m.to × IsOneOf m.points m.delta m.ack × IsSoundPoints m.points
-
 -- a content, and the bytes of it
 abbrev pub IsOf : List ℕ → Content → Type 0
-IsOf bytes c = IsKnown c × (form c ≡ bytes)
+IsOf bytes c = IsContent c × (form c ≡ bytes)
 
 -- bytes have a content
 abbrev pub HasContent : List ℕ → Type 0
@@ -43,7 +38,7 @@ HasContent bytes = (c : Content) × IsOf bytes c
 
 -- one content for each file, of its bytes
 pub record AreOf (files : List (List ℕ)) (cs : List Content) : Type 0 where
-  pub known : All IsKnown cs
+  pub contents : All IsContent cs
   pub forms : map form cs ≡ files
 
 -- what a file has under each key

@@ -4,6 +4,7 @@ pub mod Archiving
 pub mod AskWords
 pub mod Commands
 pub mod Contents
+pub mod FaultTexts
 pub mod Misfits
 pub mod Sending
 pub mod Shown

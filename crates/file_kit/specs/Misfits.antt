@@ -1,6 +1,8 @@
 -- Why a file says nothing, in the words of whoever gave it.
-use Rattle.std.specs.Prelude.{◌≡◌, ℕ, List, Option, Some, None, codes, if◌then◌else◌, nat_eq, take}
+use Rattle.std.specs.Prelude.{◌≡◌, ◌++◌, ℕ, List, Option, Some, codes, if◌then◌else◌, nat_eq, take}
+use Rattle.std.specs.Fmt.{decimal}
 use Rattle.std.specs.List.{starts_with}
+use Rattle.bytes_kit.specs.FaultTexts.{decode_text}
 use Rattle.bytes_kit.specs.declared.fault.DecodeFault.{DecodeFault}
 use Rattle.bytes_kit.specs.declared.fault.DecodeFault.TheVariants as faults
 use Rattle.file_kit.specs.Contents.{HasContent}
@@ -30,4 +32,5 @@ abbrev pub misfit_text : Misfit → Option (List ℕ)
 misfit_text misfits.Journal = Some (codes "this is a journal of kotskhin-gateway: state.ktsm beside it is read here, and has all once the gateway has ended")
 misfit_text misfits.Message = Some (codes "this is a message or a state, and no export")
 misfit_text misfits.Other = Some (codes "this is no export, message or state")
-misfit_text misfit = None
+misfit_text (misfits.Behind place) = Some (codes "something stands behind the export or message, from byte " ++ decimal place ++ codes " on")
+misfit_text (misfits.Bytes fault) = decode_text fault

@@ -1,5 +1,5 @@
 -- What files of exports are sent as, and kept as.
-use Rattle.std.specs.Prelude.{◌≡◌, ℕ, List, map, take, slice_get, Option, Some, None}
+use Rattle.std.specs.Prelude.{◌≡◌, ℕ, List, All, map, take, slice_get, Option, Some, None}
 use Rattle.std.specs.List.{flat_map}
 use Rattle.bytes_kit.specs.Explaining.{Explains}
 use Rattle.bytes_kit.specs.Fits.{IsExport}
@@ -16,11 +16,11 @@ use Rattle.file_kit.specs.declared.fault.SendFault.TheVariants as faults
 
 -- bytes are those of the requests of the files' exports, one behind the other: one request, as messages of Protocol Buffers are joined
 abbrev pub AreRequests : List (List ℕ) → List ℕ → Type 0
-AreRequests files bytes = (es : List Export) × (map bytes_of es ≡ files) × (bytes ≡ flat_map request es)
+AreRequests files bytes = (es : List Export) × All IsExport es × (map bytes_of es ≡ files) × (bytes ≡ flat_map request es)
 
 -- the request of a file's export
 abbrev pub IsRequest : List ℕ → List ℕ → Type 0
-IsRequest file bytes = (e : Export) × (bytes_of e ≡ file) × (bytes ≡ request e)
+IsRequest file bytes = (e : Export) × IsExport e × (bytes_of e ≡ file) × (bytes ≡ request e)
 
 -- why an export has no request
 abbrev pub IsUnsaid : ℕ → Export → SendFault → Type 0
@@ -31,7 +31,7 @@ IsUnsaid at e faults.NoMemory = Unit {0}
 -- why a file has no request
 abbrev pub IsUnsentAt : ℕ → List ℕ → SendFault → Type 0
 IsUnsentAt at bytes (faults.Refused place fault) = (place ≡ at) × Explains bytes fault × ((e : Export) → IsExport e → bytes ≡ bytes_of e → ⊥)
-IsUnsentAt at bytes (faults.Unsaid place fault) = (place ≡ at) × ((e : Export) × (bytes_of e ≡ bytes) × (otlp_fault e ≡ Some fault))
+IsUnsentAt at bytes (faults.Unsaid place fault) = (place ≡ at) × ((e : Export) × IsExport e × (bytes_of e ≡ bytes) × (otlp_fault e ≡ Some fault))
 IsUnsentAt at bytes faults.NoMemory = Unit {0}
 
 -- the place of the file that a fault is about

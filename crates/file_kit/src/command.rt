@@ -5,6 +5,7 @@ use crate::{Archiving, PageFormat};
 use attr_kit::{NoMemory, Seq, Txt};
 use rollup_kit::Ask;
 use std::alloc::AllocError;
+use std::fmt;
 use thiserror::Error;
 
 /// What a command line asks of files, which it names.
@@ -46,11 +47,22 @@ pub enum FileCommand {
 #[derive(Debug, Drop, Error)]
 pub enum CommandFault {
     /// The words ask for nothing that is done on files, or for help. The text says what is wrong, or helps.
-    #[error("{0}")]
     BadWords(String),
     /// Memory was refused.
-    #[error("no memory")]
     NoMemory,
+}
+
+impl fmt::Display for CommandFault {
+    ghost use Rattle.file_kit.specs.FaultTexts.{command_text};
+
+    ghost output = { λ fault. command_text fault };
+
+    fn fmt<W: fmt::Write>(&self, f: &mut fmt::Formatter<W>) -> fmt::Result {
+        match self {
+            CommandFault::BadWords(text) => write!(f, "{text}"),
+            CommandFault::NoMemory => write!(f, "no memory"),
+        }
+    }
 }
 
 impl From<NoMemory> for CommandFault {

@@ -7,16 +7,15 @@ use bytes_kit::DecodeFault;
 use otlp_kit::OtlpFault;
 use point_kit::WriterId;
 use std::alloc::AllocError;
+use std::fmt;
 use thiserror::Error;
 
 /// Why files are not joined.
 #[derive(Clone, Copy, Debug, PartialEq, Eq, Error)]
 pub enum FileFault {
     /// The file at this place, the first such, has no export, message or state, for this reason.
-    #[error("{fault}")]
     Refused { place: usize, fault: DecodeFault },
     /// Memory was refused.
-    #[error("no memory")]
     NoMemory,
 }
 
@@ -24,13 +23,10 @@ pub enum FileFault {
 #[derive(Clone, Copy, Debug, PartialEq, Eq, Error)]
 pub enum SendFault {
     /// The file at this place, the first such, has no export, for this reason.
-    #[error("{fault}")]
     Refused { place: usize, fault: DecodeFault },
     /// The export of the file at this place, the first such, has no request, for this reason.
-    #[error("{fault}")]
     Unsaid { place: usize, fault: OtlpFault },
     /// Memory was refused.
-    #[error("no memory")]
     NoMemory,
 }
 
@@ -38,24 +34,62 @@ pub enum SendFault {
 #[derive(Debug, Drop, Error)]
 pub enum ArchiveFault {
     /// The time of the export is not later than the archive's start.
-    #[error("the time is not later than the start")]
     TimeNotLater,
     /// The files are not joined, for this reason.
-    #[error("{0}")]
     Unjoined(FileFault),
     /// The files hold points of the archive's own incarnation: another export under its instance and start would take their place.
-    #[error("the files hold points of this instance and start")]
     Taken,
     /// The first incarnation that is not adopted, and why.
-    #[error("{fault}")]
     Unadopted {
         writer: WriterId,
         start: u64,
         fault: AdoptFault,
     },
     /// Memory was refused.
-    #[error("no memory")]
     NoMemory,
+}
+
+impl fmt::Display for FileFault {
+    ghost use Rattle.file_kit.specs.FaultTexts.{file_text};
+
+    ghost output = { λ fault. file_text fault };
+
+    fn fmt<W: fmt::Write>(&self, f: &mut fmt::Formatter<W>) -> fmt::Result {
+        match self {
+            FileFault::Refused { fault, .. } => write!(f, "{fault}"),
+            FileFault::NoMemory => write!(f, "no memory"),
+        }
+    }
+}
+
+impl fmt::Display for SendFault {
+    ghost use Rattle.file_kit.specs.FaultTexts.{send_text};
+
+    ghost output = { λ fault. send_text fault };
+
+    fn fmt<W: fmt::Write>(&self, f: &mut fmt::Formatter<W>) -> fmt::Result {
+        match self {
+            SendFault::Refused { fault, .. } => write!(f, "{fault}"),
+            SendFault::Unsaid { fault, .. } => write!(f, "{fault}"),
+            SendFault::NoMemory => write!(f, "no memory"),
+        }
+    }
+}
+
+impl fmt::Display for ArchiveFault {
+    ghost use Rattle.file_kit.specs.FaultTexts.{archive_text};
+
+    ghost output = { λ fault. archive_text fault };
+
+    fn fmt<W: fmt::Write>(&self, f: &mut fmt::Formatter<W>) -> fmt::Result {
+        match self {
+            ArchiveFault::TimeNotLater => write!(f, "the time is not later than the start"),
+            ArchiveFault::Unjoined(fault) => write!(f, "{fault}"),
+            ArchiveFault::Taken => write!(f, "the files hold points of this instance and start"),
+            ArchiveFault::Unadopted { fault, .. } => write!(f, "{fault}"),
+            ArchiveFault::NoMemory => write!(f, "no memory"),
+        }
+    }
 }
 
 impl From<NoMemory> for ArchiveFault {

@@ -18,9 +18,9 @@
 //!         Ok(state) => put(rt, into, state.as_slice()),
 //!         Err(fault) => Err(unjoined(alloc, files, contents.as_slice(), fault)),
 //!
-//! docs/FILES.md tells the commands. What contracts cite stands in `specs/`: `Contents` (what files have, what they say joined, what
-//! they show of that, and why a file says nothing), `Misfits` (the same in words), `Answers`, `Archiving`, `Sending`, `Shown`, and of what words ask for `AskWords`,
-//! `ArchiveWords` and `Commands`.
+//! docs/use/FILES.md tells the commands. What contracts cite stands in `specs/`: `Contents` (what files have, what they say joined, what
+//! they show of that, and why a file says nothing), `Misfits` (the same in words), `FaultTexts` (what faults print), `Answers`,
+//! `Archiving`, `Sending`, `Shown`, and of what words ask for `AskWords`, `ArchiveWords` and `Commands`.
 #![tactic(auto)]
 
 mod answers;

@@ -14,7 +14,7 @@
 //!
 //! What a message carries is held by its sender. Joined into anything that has what the receiver acknowledged, it brings that to or
 //! above the sender's state. So a message may be lost, doubled, or come late: handing it again changes nothing, and until an Ack is
-//! handed each later message brings what an earlier one would have brought. docs/GOSSIP.md has drawings.
+//! handed each later message brings what an earlier one would have brought. docs/design/GOSSIP.md has drawings.
 //!
 //! This gossip is the kit's own; the OpenTelemetry specification has none. What contracts cite stands in `specs/`: `Views` (what they
 //! see of nodes and messages), `Gossip` (what a message brings, and what is acknowledged), `Bodies`.

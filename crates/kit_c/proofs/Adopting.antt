@@ -1,4 +1,4 @@
--- What an archive answers, and becomes, that adopts from a keeper: from what two handles have.
+-- What an archive answers, and becomes, that adopts from a gateway: from what two handles have.
 use Rattle.std.proofs.Common.{◌≡◌, ℕ, pos, List, Option, None, Some, ◌∷◌, [], refl, sym}
 use Rattle.archive_kit.specs.Archive.{ArchiveState}
 use Rattle.attr_kit.specs.Refusing.{first}
@@ -13,12 +13,12 @@ use Rattle.kit_c.specs.declared.fault.Fault.{Fault}
 module _ (start : ℕ) {w v : WriterId} {m : Option ArchiveState} {n : Option NodeModel} {a : ArchiveState} {k : NodeModel} where
   pub adopts : {b : ArchiveState} → w ≡ v → m ≡ Some a → n ≡ Some k → b ≡ after_adopting w start a k
       → Some b ≡ in_first (after_adopting v start) m n
-  adopts same archive keeper is = rw archive (rw keeper (rw (sym same) (rw is refl)))
+  adopts same archive gateway is = rw archive (rw gateway (rw (sym same) (rw is refl)))
 
   pub no_fault : (bytes : List ℕ) → text_fault bytes ≡ None → w ≡ v → m ≡ Some a → n ≡ Some k → adopting_fault w start a k ≡ None
       → pos 0 ≡ code_for (first (text_fault bytes ∷ of_two m n (adopting_fault v start) ∷ []))
-  no_fault bytes text same archive keeper none = rw text (rw archive (rw keeper (rw (sym same) (rw none refl))))
+  no_fault bytes text same archive gateway none = rw text (rw archive (rw gateway (rw (sym same) (rw none refl))))
 
   pub one_fault : (bytes : List ℕ) {f : Fault} → text_fault bytes ≡ None → w ≡ v → m ≡ Some a → n ≡ Some k → adopting_fault w start a k ≡ Some f
       → code_of f ≡ code_for (first (text_fault bytes ∷ of_two m n (adopting_fault v start) ∷ []))
-  one_fault bytes text same archive keeper some = rw text (rw archive (rw keeper (rw (sym same) (rw some refl))))
+  one_fault bytes text same archive gateway some = rw text (rw archive (rw gateway (rw (sym same) (rw some refl))))

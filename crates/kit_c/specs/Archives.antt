@@ -11,7 +11,7 @@ use Rattle.point_kit.specs.declared.writer_id.WriterId.{WriterId}
 use Rattle.kit_c.specs.declared.fault.Fault.{Fault}
 use Rattle.kit_c.specs.declared.fault.Fault.TheVariants as faults
 
--- why an archive does not adopt an incarnation from what a keeper holds of it, and the archive once it did
+-- why an archive does not adopt an incarnation from what a gateway holds of it, and the archive once it did
 unfoldable pub adopting_fault : WriterId → ℕ → ArchiveState → NodeModel → Option Fault
 adopting_fault writer start a n = option_map (λ f. faults.Adopt f) (adopt_fault a writer start (incarnation_points writer start n.gateway.points))
 

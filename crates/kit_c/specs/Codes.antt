@@ -18,7 +18,8 @@ use Rattle.gossip_kit.specs.declared.fault.HandFault.TheVariants as hands
 use Rattle.otlp_kit.specs.declared.fault.OtlpFault.{OtlpFault}
 use Rattle.otlp_kit.specs.declared.fault.OtlpFault.TheVariants as otlps
 use Rattle.otlp_kit.specs.declared.request_fault.RequestFault.{RequestFault}
-use Rattle.otlp_kit.specs.declared.request_fault.RequestFault.TheVariants as requests
+use Rattle.otlp_kit.specs.declared.request_fault.RequestReason.{RequestReason}
+use Rattle.otlp_kit.specs.declared.request_fault.RequestReason.TheVariants as reasons
 use Rattle.recorder_kit.specs.declared.fault.RecordFault.{RecordFault}
 use Rattle.recorder_kit.specs.declared.fault.RecordFault.TheVariants as records
 use Rattle.writer_kit.specs.declared.fault.CollectFault.{CollectFault}
@@ -131,36 +132,42 @@ decoding_code decodings.NoMemory = no_memory
 
 abbrev pub otlp_code : OtlpFault → ℤ
 otlp_code (otlps.BadBounds point) = otlp_bounds
+otlp_code otlps.TooLongText = pos 107
+otlp_code (otlps.TooManyAttributes point) = pos 108
 otlp_code otlps.TooLong = pos 81
 otlp_code otlps.NoMemory = no_memory
 
+abbrev pub reason_code : RequestReason → ℤ
+reason_code reasons.Malformed = pos 82
+reason_code reasons.NotText = pos 5
+reason_code reasons.TooLongText = pos 107
+reason_code reasons.NoService = pos 83
+reason_code reasons.NoInstance = pos 84
+reason_code reasons.NotUuid = pos 85
+reason_code reasons.ScopeTwice = pos 86
+reason_code reasons.ExponentialHistogram = pos 87
+reason_code reasons.Summary = pos 88
+reason_code reasons.NoData = pos 89
+reason_code reasons.Delta = pos 90
+reason_code reasons.NoTemporality = pos 91
+reason_code reasons.NoRecordedValue = pos 92
+reason_code reasons.UnknownStart = pos 93
+reason_code reasons.FloatValue = pos 94
+reason_code reasons.NoValue = no_point_value
+reason_code reasons.NoSum = pos 96
+reason_code reasons.NotWhole = pos 97
+reason_code reasons.Inexact = pos 98
+reason_code reasons.BadBounds = not_rising
+reason_code reasons.HalfRange = pos 100
+reason_code reasons.TooManyAttributes = pos 108
+reason_code reasons.EmptyKey = no_key
+reason_code reasons.AttributeTwice = pos 102
+reason_code reasons.AttributeValue = pos 103
+reason_code (reasons.BadExport fault) = no_export
+reason_code reasons.NoMemory = no_memory
+
 abbrev pub request_code : RequestFault → ℤ
-request_code (requests.Malformed at) = pos 82
-request_code (requests.NotText at) = pos 5
-request_code (requests.NoService resource) = pos 83
-request_code (requests.NoInstance resource) = pos 84
-request_code (requests.NotUuid resource) = pos 85
-request_code (requests.ScopeTwice scope) = pos 86
-request_code (requests.ExponentialHistogram metric) = pos 87
-request_code (requests.Summary metric) = pos 88
-request_code (requests.NoData metric) = pos 89
-request_code (requests.Delta metric) = pos 90
-request_code (requests.NoTemporality metric) = pos 91
-request_code (requests.NoRecordedValue point) = pos 92
-request_code (requests.UnknownStart point) = pos 93
-request_code (requests.FloatValue point) = pos 94
-request_code (requests.NoValue point) = no_point_value
-request_code (requests.NoSum point) = pos 96
-request_code (requests.NotWhole point) = pos 97
-request_code (requests.Inexact point) = pos 98
-request_code (requests.BadBounds point) = not_rising
-request_code (requests.HalfRange point) = pos 100
-request_code (requests.EmptyKey point) = no_key
-request_code (requests.AttributeTwice point) = pos 102
-request_code (requests.AttributeValue point) = pos 103
-request_code requests.Repeats = pos 105
-request_code (requests.BadExport export fault) = no_export
-request_code requests.NoMemory = no_memory
+request_code f = reason_code f.why
 
 -- those that carry none are refusals of the boundary
 abbrev pub code_of : Fault → ℤ
@@ -172,8 +179,6 @@ code_of faults.BadNumber = pos 6
 code_of faults.NoRow = pos 8
 code_of faults.NoItem = pos 19
 code_of faults.NoPoint = no_point
-code_of faults.TooWide = pos 40
-code_of faults.NoBucket = pos 41
 code_of faults.WrongShape = pos 42
 code_of faults.Busy = pos 16
 code_of faults.Exhausted = pos 17

@@ -1,4 +1,5 @@
 -- What the handles of each kind have.
+use Rattle.std.specs.Option.{option_map}
 use Rattle.std.specs.Prelude.{ℕ, List, Option}
 use Rattle.archive_kit.specs.Archive.{ArchiveState}
 use Rattle.attr_kit.specs.declared.attr_set.AttrSet.{AttrSet}
@@ -15,7 +16,7 @@ use Rattle.rollup_kit.specs.declared.ask.Ask.{Ask}
 use Rattle.rollup_kit.specs.declared.row.Row.{Row}
 use Rattle.writer_kit.specs.Written.{Written}
 use Rattle.kit_c.specs.Calls.{listed}
-use Rattle.kit_c.specs.Typed.{archive_in, ask_in, attributes_in, bytes_in, export_in, exports_in, gateway_in, incarnations_in, instruments_in, keeper_in, keys_in, message_in, node_in, pairs_in, plan_in, recorder_in, rows_in, seat_in, streams_in, text_in, view_in, views_in, writer_in}
+use Rattle.kit_c.specs.Typed.{archive_in, ask_in, attributes_in, bytes_in, export_in, exports_in, gateway_in, incarnations_in, instruments_in, keys_in, message_in, pairs_in, plan_in, recorder_in, rows_in, seat_in, streams_in, text_in, view_in, views_in, writer_in}
 use Rattle.kit_c.specs.declared.desk.Desk.{Desk}
 use Rattle.kit_c.specs.declared.typed.KitArchive.{KitArchive}
 use Rattle.kit_c.specs.declared.typed.KitAsk.{KitAsk}
@@ -27,10 +28,8 @@ use Rattle.kit_c.specs.declared.typed.KitGateway.{KitGateway}
 use Rattle.kit_c.specs.declared.incarnations.Incarnation.{Incarnation}
 use Rattle.kit_c.specs.declared.typed.KitIncarnations.{KitIncarnations}
 use Rattle.kit_c.specs.declared.typed.KitInstruments.{KitInstruments}
-use Rattle.kit_c.specs.declared.typed.KitKeeper.{KitKeeper}
 use Rattle.kit_c.specs.declared.typed.KitKeys.{KitKeys}
 use Rattle.kit_c.specs.declared.typed.KitMessage.{KitMessage}
-use Rattle.kit_c.specs.declared.typed.KitNode.{KitNode}
 use Rattle.kit_c.specs.declared.typed.KitPairs.{KitPairs}
 use Rattle.kit_c.specs.declared.typed.KitPlan.{KitPlan}
 use Rattle.kit_c.specs.declared.typed.KitRecorder.{KitRecorder}
@@ -76,17 +75,15 @@ export_of k = export_in k.handle.inner.value
 abbrev pub exports_of : KitExports → Option (List Export)
 exports_of k = exports_in k.handle.inner.value
 
-abbrev pub gateway_of : KitGateway → Option GatewayState
-gateway_of k = gateway_in k.handle.inner.value
+-- a gateway with its books of what others acknowledged
+abbrev pub node_of : KitGateway → Option NodeModel
+node_of k = gateway_in k.handle.inner.value
 
-abbrev pub node_of : KitNode → Option NodeModel
-node_of k = node_in k.handle.inner.value
+abbrev pub gateway_of : KitGateway → Option GatewayState
+gateway_of k = option_map (λ n. n.gateway) (node_of k)
 
 abbrev pub message_of : KitMessage → Option MessageModel
 message_of k = message_in k.handle.inner.value
-
-abbrev pub keeper_of : KitKeeper → Option NodeModel
-keeper_of k = keeper_in k.handle.inner.value
 
 abbrev pub archive_of : KitArchive → Option ArchiveState
 archive_of k = archive_in k.handle.inner.value

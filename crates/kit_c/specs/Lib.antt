@@ -9,14 +9,12 @@ pub mod Faults
 pub mod Formats
 pub mod Gateways
 pub mod Held
-pub mod Histograms
 pub mod Holding
 pub mod Incarnations
 pub mod Items
 pub mod Kinds
-pub mod Keepers
 pub mod Knowing
-pub mod Nodes
+pub mod Messages
 pub mod Owned
 pub mod Pairs
 pub mod Places
@@ -26,8 +24,6 @@ pub mod Rows
 pub mod Services
 pub mod Streams
 pub mod Takings
-pub mod Texts
 pub mod Typed
 pub mod Views
-pub mod Wide
 pub mod Writers

@@ -2,21 +2,42 @@
 use Rattle.std.specs.Prelude.{◌≡◌, ◌≢◌, ℕ, ℤ, Option, Some, None}
 use Rattle.std.specs.Option.{unwrap_or}
 use Rattle.agg_kit.specs.declared.fault.TallyFault.TheVariants as tallies
+use Rattle.attr_kit.specs.declared.error.AttrFault.{AttrFault}
 use Rattle.attr_kit.specs.declared.error.AttrFault.TheVariants as sets
 use Rattle.bytes_kit.specs.declared.fault.DecodeFault.{DecodeFault}
 use Rattle.bytes_kit.specs.declared.fault.DecodeFault.TheVariants as decodings
 use Rattle.otlp_kit.specs.declared.fault.OtlpFault.{OtlpFault}
 use Rattle.otlp_kit.specs.declared.fault.OtlpFault.TheVariants as otlps
 use Rattle.otlp_kit.specs.declared.request_fault.RequestFault.{RequestFault}
-use Rattle.otlp_kit.specs.declared.request_fault.RequestFault.TheVariants as requests
+use Rattle.otlp_kit.specs.declared.request_fault.RequestReason.{RequestReason}
+use Rattle.otlp_kit.specs.declared.request_fault.RequestReason.TheVariants as reasons
 use Rattle.plan_kit.specs.declared.fault.PlanFault.{PlanFault}
 use Rattle.plan_kit.specs.declared.fault.PlanFault.TheVariants as plans
+use Rattle.writer_kit.specs.declared.fault.CollectFault.{CollectFault}
 use Rattle.writer_kit.specs.declared.fault.CollectFault.TheVariants as collections
+use Rattle.writer_kit.specs.declared.fault.MeasureFault.{MeasureFault}
 use Rattle.writer_kit.specs.declared.fault.MeasureFault.TheVariants as recordings
+use Rattle.writer_kit.specs.declared.fault.RestartFault.{RestartFault}
 use Rattle.writer_kit.specs.declared.fault.RestartFault.TheVariants as restarts
 use Rattle.kit_c.specs.Codes.{no_memory}
 use Rattle.kit_c.specs.declared.fault.Fault.{Fault}
 use Rattle.kit_c.specs.declared.fault.Fault.TheVariants as faults
+
+abbrev pub recording_place : MeasureFault → Option ℕ
+recording_place (recordings.Refused (tallies.Overflow stream)) = Some stream
+recording_place other = None
+
+abbrev pub collection_place : CollectFault → Option ℕ
+collection_place (collections.TimeNotAfter last) = Some last
+collection_place other = None
+
+abbrev pub restart_place : RestartFault → Option ℕ
+restart_place (restarts.StartNotAfter start) = Some start
+restart_place other = None
+
+abbrev pub attributes_place : AttrFault → Option ℕ
+attributes_place (sets.EmptyKey pair) = Some pair
+attributes_place other = None
 
 abbrev pub plan_place : PlanFault → Option ℕ
 plan_place (plans.BadName i) = Some i
@@ -39,42 +60,23 @@ decoding_place other = None
 
 abbrev pub otlp_place : OtlpFault → Option ℕ
 otlp_place (otlps.BadBounds point) = Some point
+otlp_place (otlps.TooManyAttributes point) = Some point
 otlp_place other = None
 
+-- of want of memory none
+abbrev pub reason_place : RequestReason → ℕ → Option ℕ
+reason_place reasons.NoMemory place = None
+reason_place other place = Some place
+
 abbrev pub request_place : RequestFault → Option ℕ
-request_place (requests.Malformed at) = Some at
-request_place (requests.NotText at) = Some at
-request_place (requests.NoService resource) = Some resource
-request_place (requests.NoInstance resource) = Some resource
-request_place (requests.NotUuid resource) = Some resource
-request_place (requests.ScopeTwice scope) = Some scope
-request_place (requests.ExponentialHistogram metric) = Some metric
-request_place (requests.Summary metric) = Some metric
-request_place (requests.NoData metric) = Some metric
-request_place (requests.Delta metric) = Some metric
-request_place (requests.NoTemporality metric) = Some metric
-request_place (requests.NoRecordedValue point) = Some point
-request_place (requests.UnknownStart point) = Some point
-request_place (requests.FloatValue point) = Some point
-request_place (requests.NoValue point) = Some point
-request_place (requests.NoSum point) = Some point
-request_place (requests.NotWhole point) = Some point
-request_place (requests.Inexact point) = Some point
-request_place (requests.BadBounds point) = Some point
-request_place (requests.HalfRange point) = Some point
-request_place (requests.EmptyKey point) = Some point
-request_place (requests.AttributeTwice point) = Some point
-request_place (requests.AttributeValue point) = Some point
-request_place requests.Repeats = None
-request_place (requests.BadExport export fault) = Some export
-request_place requests.NoMemory = None
+request_place f = reason_place f.why f.place
 
 -- the place of a refusal, or the first where it has two
 abbrev pub place_of : Fault → Option ℕ
-place_of (faults.Measure (recordings.Refused (tallies.Overflow stream))) = Some stream
-place_of (faults.Collect (collections.TimeNotAfter last)) = Some last
-place_of (faults.Restart (restarts.StartNotAfter start)) = Some start
-place_of (faults.Attributes (sets.EmptyKey pair)) = Some pair
+place_of (faults.Measure f) = recording_place f
+place_of (faults.Collect f) = collection_place f
+place_of (faults.Restart f) = restart_place f
+place_of (faults.Attributes f) = attributes_place f
 place_of (faults.Plan f) = plan_place f
 place_of (faults.ReservedScope i) = Some i
 place_of (faults.Decode f) = decoding_place f

@@ -1,59 +1,82 @@
 -- Rows as numbers.
-use Rattle.std.specs.Prelude.{ℕ, ℤ, ◌^◌, List, slice_get, nat_le, not, Option, Some, None}
-use Rattle.agg_kit.specs.Payloads.{fits_sum}
-use Rattle.attr_kit.specs.Refusing.{when}
+use Rattle.std.specs.Prelude.{ℕ, ℤ, pos, ◌/◌, ◌%◌, ◌^◌, List, [], length, slice_get, Option, Some, None}
+use Rattle.std.specs.Int.{cast_signed, cast_unsigned, w64, w128}
+use Rattle.std.specs.Option.{is_some, unwrap_or}
 use Rattle.rollup_kit.specs.declared.row.Row.{Row}
 use Rattle.rollup_kit.specs.declared.row.Total.{Total}
 use Rattle.rollup_kit.specs.declared.row.Total.TheVariants as totals
 use Rattle.kit_c.specs.declared.fault.Fault.{Fault}
 use Rattle.kit_c.specs.declared.fault.Fault.TheVariants as faults
+use Rattle.kit_c.specs.declared.row.KitCount.{KitCount}
+use Rattle.kit_c.specs.declared.row.KitRow.{KitRow}
 
--- a sum that is no i64
-abbrev pub wide_sum : ℤ → Option Fault
-wide_sum t = when (not (fits_sum t)) faults.TooWide
+-- there is no row
+abbrev pub no_row : Option Row → Option Fault
+no_row None = Some faults.NoRow
+no_row (Some r) = None
 
--- a count that is no u64
-abbrev pub wide_count : ℕ → Option Fault
-wide_count n = when (nat_le (2 ^ 64) n) faults.TooWide
+-- there is no row of a number
+abbrev pub row_fault : ℕ → List Row → Option Fault
+row_fault n rs = no_row (slice_get rs n)
 
--- what a row that there may not be refuses
-abbrev pub of_row : Option Row → (Row → Option Fault) → Option Fault
-of_row None refusal = Some faults.NoRow
-of_row (Some r) refusal = refusal r
+-- the number of a total's shape: 1 a sum, 2 a gauge, 3 a histogram
+abbrev pub shape_in : Total → ℕ
+shape_in (totals.Sum sum) = 1
+shape_in (totals.Gauge newest) = 2
+shape_in (totals.Hist count sum buckets range) = 3
 
--- the row of a number
-abbrev pub row_fault : ℕ → (Row → Option Fault) → List Row → Option Fault
-row_fault n refusal rs = of_row (slice_get rs n) refusal
+-- what the values of a sum or of a histogram come to
+abbrev pub sum_in : Total → ℤ
+sum_in (totals.Sum sum) = sum
+sum_in (totals.Gauge newest) = pos 0
+sum_in (totals.Hist count sum buckets range) = sum
 
--- what it tells, if there is one and it tells that
-abbrev pub told_by : {A : Type 0} → (Row → Option A) → Option Row → Option A
-told_by part None = None
-told_by part (Some r) = part r
+-- how many values a histogram is of
+abbrev pub count_in : Total → ℕ
+count_in (totals.Hist count sum buckets range) = count
+count_in other = 0
 
-abbrev pub row_part : {A : Type 0} → ℕ → (Row → Option A) → List Row → Option A
-row_part n part rs = told_by part (slice_get rs n)
+-- the time and the value of the newest point of a gauge
+abbrev pub newest_in : Total → Option (ℕ × ℤ)
+newest_in (totals.Gauge newest) = newest
+newest_in other = None
 
--- how many points the total of a row is of, and how many conflicts it leaves out
-abbrev pub counts_of : Row → Option (ℕ × ℕ)
-counts_of r = Some (r.points, r.conflicts)
+-- the least and the greatest value of a histogram
+abbrev pub range_in : Total → Option (ℤ × ℤ)
+range_in (totals.Hist count sum buckets range) = range
+range_in other = None
 
--- a total is no sum, or one that is no i64
-abbrev pub no_sum : Total → Option Fault
-no_sum (totals.Sum t) = wide_sum t
-no_sum other = Some faults.WrongShape
+-- how many values each bucket of a histogram has
+abbrev pub buckets_in : Total → List ℕ
+buckets_in (totals.Hist count sum buckets range) = buckets
+buckets_in other = []
 
--- what a total is as a sum
-abbrev pub as_sum : Total → Option ℤ
-as_sum (totals.Sum t) = Some t
-as_sum other = None
+-- a number of 128 bits by its halves
+abbrev pub told_count : ℕ → KitCount
+told_count n = record { high = n / 2 ^ 64; low = n % 2 ^ 64 }
 
--- a total is no gauge, or one without a point
-abbrev pub no_gauge : Total → Option Fault
-no_gauge (totals.Gauge (Some p)) = None
-no_gauge (totals.Gauge None) = Some faults.NoPoint
-no_gauge other = Some faults.WrongShape
+-- the same of one that may be below 0: the high half may be
+abbrev pub high_of : ℤ → ℤ
+high_of z = cast_signed w64 (told_count (cast_unsigned w128 z)).high
 
--- what a total is as a gauge: its newest point
-abbrev pub as_gauge : Total → Option (ℕ × ℤ)
-as_gauge (totals.Gauge p) = p
-as_gauge other = None
+abbrev pub low_of : ℤ → ℕ
+low_of z = (told_count (cast_unsigned w128 z)).low
+
+-- a row as numbers
+abbrev pub told_row : Row → KitRow
+told_row r = record {
+  points = r.points;
+  conflicts = r.conflicts;
+  sum_high = high_of (sum_in r.total);
+  sum_low = low_of (sum_in r.total);
+  count_high = (told_count (count_in r.total)).high;
+  count_low = (told_count (count_in r.total)).low;
+  time = (unwrap_or (newest_in r.total) (0, pos 0)).0;
+  value = (unwrap_or (newest_in r.total) (0, pos 0)).1;
+  least = (unwrap_or (range_in r.total) (pos 0, pos 0)).0;
+  greatest = (unwrap_or (range_in r.total) (pos 0, pos 0)).1;
+  buckets = length (buckets_in r.total);
+  shape = shape_in r.total;
+  has_value = is_some (newest_in r.total);
+  has_range = is_some (range_in r.total);
+}

@@ -1,9 +1,13 @@
 -- Streams, read by numbers.
-use Rattle.std.specs.Prelude.{ℕ, ℤ, ◌==◌, cond, nat_le, true, false, List, [], ◌∷◌, Option}
+use Rattle.std.specs.Prelude.{ℕ, ℤ, ◌==◌, cond, nat_le, true, false, List, [], ◌∷◌, fold, Option}
 use Rattle.attr_kit.specs.Refusing.{first, when}
+use Rattle.indexmap.specs.IndexSet.{insert_key}
+use Rattle.point_kit.specs.declared.export.Export.{Export}
+use Rattle.point_kit.specs.declared.export_point.ExportPoint.{ExportPoint}
 use Rattle.point_kit.specs.declared.shape.Shape.{Shape}
 use Rattle.point_kit.specs.declared.shape.Shape.TheVariants as shapes
 use Rattle.point_kit.specs.declared.stream.Stream.{Stream}
+use Rattle.rollup_kit.specs.Streams.{stream_eq}
 use Rattle.kit_c.specs.Items.{item_fault}
 use Rattle.kit_c.specs.declared.fault.Fault.{Fault}
 use Rattle.kit_c.specs.declared.fault.Fault.TheVariants as faults
@@ -27,3 +31,11 @@ shape_number (shapes.Histogram bounds) = 3
 abbrev pub bounds_of : Shape → List ℤ
 bounds_of (shapes.Histogram bounds) = bounds
 bounds_of other = []
+
+-- streams, and those of an export's points behind them, each once
+abbrev pub with_brought : List Stream → List ExportPoint → List Stream
+with_brought ss ps = fold (λ seen p. insert_key stream_eq seen p.stream) ss ps
+
+-- those of all its points
+abbrev pub streams_brought : Export → List Stream
+streams_brought e = with_brought [] e.points

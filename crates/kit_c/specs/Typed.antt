@@ -4,7 +4,6 @@ use Rattle.std.specs.Option.{is_some}
 use Rattle.archive_kit.specs.Archive.{ArchiveState}
 use Rattle.attr_kit.specs.declared.attr_set.AttrSet.{AttrSet}
 use Rattle.attr_kit.specs.declared.attr_value.AttrValue.{AttrValue}
-use Rattle.gateway_kit.specs.GatewayState.{GatewayState}
 use Rattle.gossip_kit.specs.Views.{MessageModel, NodeModel}
 use Rattle.plan_kit.specs.Plans.{Planned}
 use Rattle.plan_kit.specs.declared.instrument.Instrument.{Instrument}
@@ -18,7 +17,7 @@ use Rattle.writer_kit.specs.Written.{Written}
 use Rattle.kit_c.specs.declared.desk.Desk.{Desk as TheDesk}
 use Rattle.kit_c.specs.declared.incarnations.Incarnation.{Incarnation}
 use Rattle.kit_c.specs.declared.content.Content.{Content}
-use Rattle.kit_c.specs.declared.content.Content.TheVariants.{Archive, Ask, Attributes, Bytes, Desk, Export, Exports, Gateway, Incarnations, Instruments, Keeper, Keys, Message, Node, Pairs, Plan, Recorder, Rows, Streams, Text, View, Views, Writer}
+use Rattle.kit_c.specs.declared.content.Content.TheVariants.{Archive, Ask, Attributes, Bytes, Desk, Export, Exports, Gateway, Incarnations, Instruments, Keys, Message, Pairs, Plan, Recorder, Rows, Streams, Text, View, Views, Writer}
 
 abbrev pub pairs_in : Option Content → Option (List (List ℕ × AttrValue))
 pairs_in (Some (Pairs x)) = Some x
@@ -64,21 +63,13 @@ abbrev pub exports_in : Option Content → Option (List TheExport)
 exports_in (Some (Exports x)) = Some x
 exports_in m = None
 
-abbrev pub gateway_in : Option Content → Option GatewayState
+abbrev pub gateway_in : Option Content → Option NodeModel
 gateway_in (Some (Gateway x)) = Some x
 gateway_in m = None
-
-abbrev pub node_in : Option Content → Option NodeModel
-node_in (Some (Node x)) = Some x
-node_in m = None
 
 abbrev pub message_in : Option Content → Option MessageModel
 message_in (Some (Message x)) = Some x
 message_in m = None
-
-abbrev pub keeper_in : Option Content → Option NodeModel
-keeper_in (Some (Keeper x)) = Some x
-keeper_in m = None
 
 abbrev pub archive_in : Option Content → Option ArchiveState
 archive_in (Some (Archive x)) = Some x
@@ -161,17 +152,9 @@ abbrev pub is_gateway : Option Content → Bool
 is_gateway None = true
 is_gateway (Some h) = is_some (gateway_in (Some h))
 
-abbrev pub is_node : Option Content → Bool
-is_node None = true
-is_node (Some h) = is_some (node_in (Some h))
-
 abbrev pub is_message : Option Content → Bool
 is_message None = true
 is_message (Some h) = is_some (message_in (Some h))
-
-abbrev pub is_keeper : Option Content → Bool
-is_keeper None = true
-is_keeper (Some h) = is_some (keeper_in (Some h))
 
 abbrev pub is_archive : Option Content → Bool
 is_archive None = true

@@ -7,14 +7,14 @@ ghost use Rattle.kit_c.specs.Calls.{code_for, full_fault, if_any, if_both, in_fi
 ghost use Rattle.kit_c.specs.Codes.{code_of, no_memory};
 ghost use Rattle.kit_c.specs.Faults.{text_fault};
 ghost use Rattle.kit_c.specs.Gateways.{identity_of};
-ghost use Rattle.kit_c.specs.Held.{archive_of, export_of, keeper_of};
+ghost use Rattle.kit_c.specs.Held.{archive_of, export_of, node_of};
 ghost use Rattle.kit_c.specs.Typed.{export_in, is_export};
 
 use crate::content::Content;
 use crate::fault::{FULL, Fault, NO_MEMORY, NOTHING, OK, WRONG_KIND};
 use crate::text::{is_no_text, text_of};
-use crate::typed::{KitArchive, KitExport, KitKeeper};
-use crate::with::{with, with_two};
+use crate::typed::{KitArchive, KitExport, KitGateway};
+use crate::with::{fill, or_code, with, with_two};
 use archive_kit::{Archive, ExportRefusal, Keeper};
 use attr_kit::Seq;
 use point_kit::WriterId;
@@ -58,20 +58,13 @@ pub extern "C" fn kit_archive_begin(
     ensures short { result ≡ no_memory → first (full_fault (archive_of archive.old) ∷ text_fault service.now ∷ []) ≡ None }
     ensures unchanged { result ≢ pos 0 → archive_of archive.new ≡ archive_of archive.old }
 {
-    if archive.handle.full {
-        return FULL;
-    }
-    let writer = match identity(alloc, service, instance_high, instance_low) {
-        Ok(writer) => writer,
-        Err(fault) => return fault.code(),
-    };
-    match Archive::begin(alloc, writer, start, limit) {
-        Ok(made) => archive.handle.fill(alloc, Content::Archive(made)),
-        Err(_) => NO_MEMORY,
-    }
+    fill!(alloc, archive => {
+        let writer = or_code!(identity(alloc, service, instance_high, instance_low));
+        Archive::begin(alloc, writer, start, limit)
+    }, made => Content::Archive(made))
 }
 
-// Adopts an incarnation from what a keeper holds of it.
+// Adopts an incarnation from what a gateway holds of it.
 #[tactic(auto, unfolding(crate::specs::Archives::adopting_fault, crate::specs::Archives::after_adopting))]
 fn adopt(archive: &mut Archive, keeper: &Keeper, writer: &WriterId, start: u64) -> Result<(), Fault>
     ensures ok { OnOk result (adopting_fault writer.now start archive.old keeper.now ≡ None) }
@@ -85,47 +78,44 @@ fn adopt(archive: &mut Archive, keeper: &Keeper, writer: &WriterId, start: u64) 
     }
 }
 
-/// Adopts an incarnation of a service's instance from what a keeper, which stays, holds of it: adds the sums and the histograms to the
+/// Adopts an incarnation of a service's instance from what a gateway, which stays, holds of it: adds the sums and the histograms to the
 /// archive's own, and notes that it did. Gauges are not adopted. It is for incarnations that have ended: what one exports later is not
 /// counted.
 ///
-/// Refused, in this order: `NOT_TEXT` where the service is no UTF-8; `NOTHING` of the archive, then of the keeper; `OTHER_SERVICE`;
+/// Refused, in this order: `NOT_TEXT` where the service is no UTF-8; `NOTHING` of the archive, then of the gateway; `OTHER_SERVICE`;
 /// `IS_ARCHIVE`; `ADOPTED` where this archive did so before; `NO_POINT` where nothing of it is held; `CONFLICT` where different values of
 /// one time came; `TORN` where its points are of several times; `UNSOUND` where no export has them; `OUT_OF_RANGE` where its start or its
-/// time is 2^63 - 1 or later, or a total would leave its range; `SET_LIMIT`; `NO_MEMORY`. The service is copied before the archive is asked,
-/// so want of memory for that may be told in place of what follows `NOTHING`.
+/// time is 2^63 - 1 or later, or a total would leave its range; `SET_LIMIT`; `NO_MEMORY`. The service is copied before the archive is
+/// asked, so want of memory for that may be told in place of what follows `NOTHING`.
 #[unsafe(no_mangle)]
 pub extern "C" fn kit_archive_adopt(
     alloc: Global,
     archive: &mut KitArchive,
-    keeper: &mut KitKeeper,
+    gateway: &mut KitGateway,
     service: &[u8],
     instance_high: u64,
     instance_low: u64,
     start: u64,
 ) -> i32
     ensures code { result ≢ no_memory → result ≡ code_for (first (text_fault service.now
-        ∷ of_two (archive_of archive.old) (keeper_of keeper.old)
+        ∷ of_two (archive_of archive.old) (node_of gateway.old)
         (adopting_fault (identity_of service.now instance_high instance_low) start) ∷ [])) }
     ensures value { result ≡ pos 0 → archive_of archive.new
         ≡ in_first (after_adopting (identity_of service.now instance_high instance_low) start)
-        (archive_of archive.old) (keeper_of keeper.old) }
+        (archive_of archive.old) (node_of gateway.old) }
     ensures short { result ≡ no_memory
-        → first (text_fault service.now ∷ of_two (archive_of archive.old) (keeper_of keeper.old) if_both ∷ []) ≡ None }
+        → first (text_fault service.now ∷ of_two (archive_of archive.old) (node_of gateway.old) if_both ∷ []) ≡ None }
     ensures unchanged { result ≢ pos 0 → archive_of archive.new ≡ archive_of archive.old }
-    ensures kept { keeper_of keeper.new ≡ keeper_of keeper.old }
+    ensures kept { node_of gateway.new ≡ node_of gateway.old }
 {
     if is_no_text(service) {
         return Fault::NotText.code();
     }
-    if !archive.handle.full || !keeper.handle.full {
+    if !archive.handle.full || !gateway.handle.full {
         return NOTHING;
     }
-    let writer = match identity(alloc, service, instance_high, instance_low) {
-        Ok(writer) => writer,
-        Err(fault) => return fault.code(),
-    };
-    match with_two!(alloc, archive => Archive(held), keeper => Keeper(read), adopt(held, read, &writer, start))
+    let writer = or_code!(identity(alloc, service, instance_high, instance_low));
+    match with_two!(alloc, archive => Archive(held), gateway => Gateway(read), adopt(held, read, &writer, start))
     {
         Ok(()) => OK,
         Err(fault) => fault.code(),

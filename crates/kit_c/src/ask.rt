@@ -8,16 +8,16 @@ ghost use Rattle.kit_c.specs.Asks.{all_of, asking_fault, stream_fault, stream_of
 ghost use Rattle.kit_c.specs.Calls.{code_for, from_two, full_fault, if_any, if_both, in_one, of_one, of_two};
 ghost use Rattle.kit_c.specs.Codes.{code_of, no_memory};
 ghost use Rattle.kit_c.specs.Faults.{text_fault};
-ghost use Rattle.kit_c.specs.Held.{ask_of, gateway_of, keys_of, pairs_of, rows_of, text_of as text_in};
+ghost use Rattle.kit_c.specs.Held.{ask_of, gateway_of, keys_of, node_of, pairs_of, rows_of, text_of as text_in};
 ghost use Rattle.point_kit.specs.declared.shape.Shape.TheVariants as shapes;
 ghost use Rattle.rollup_kit.specs.Rollups.{rollup_rows};
 ghost use Rattle.rollup_kit.specs.TableText.{table_text};
 
 use crate::content::Content;
 use crate::fault::{FULL, Fault, NO_MEMORY, NOTHING, OK, WRONG_KIND};
-use crate::text::{text, text_of};
+use crate::text::text_of;
 use crate::typed::{KitAsk, KitGateway, KitKeys, KitPairs, KitRows, KitText};
-use crate::with::{copy_of, with, with_two};
+use crate::with::{copy_of, fill, fill_or_tell, or_code, with, with_two};
 use attr_kit::{AllowList, Keep, Seq, TryCopy};
 use point_kit::{Shape, Stream};
 use rollup_kit::{Ask, rollup, table};
@@ -72,13 +72,7 @@ pub extern "C" fn kit_ask_sum(
     ensures value { result ≡ pos 0 → ask_of ask.new ≡ Some (all_of (asked scope.now name.now unit.now (shapes.Sum monotonic))) }
     ensures unchanged { result ≢ pos 0 → ask_of ask.new ≡ ask_of ask.old }
 {
-    if ask.handle.full {
-        return FULL;
-    }
-    match stream_of(alloc, scope, name, unit, Shape::Sum { monotonic }) {
-        Ok(stream) => ask.handle.fill(alloc, Content::Ask(all(alloc, stream))),
-        Err(fault) => fault.code(),
-    }
+    fill_or_tell!(alloc, ask => stream_of(alloc, scope, name, unit, Shape::Sum { monotonic }), stream => Content::Ask(all(alloc, stream)))
 }
 
 /// Asks for the points of a gauge: of all services, with a row for each attribute set.
@@ -96,13 +90,7 @@ pub extern "C" fn kit_ask_gauge(
     ensures value { result ≡ pos 0 → ask_of ask.new ≡ Some (all_of (asked scope.now name.now unit.now shapes.Gauge)) }
     ensures unchanged { result ≢ pos 0 → ask_of ask.new ≡ ask_of ask.old }
 {
-    if ask.handle.full {
-        return FULL;
-    }
-    match stream_of(alloc, scope, name, unit, Shape::Gauge) {
-        Ok(stream) => ask.handle.fill(alloc, Content::Ask(all(alloc, stream))),
-        Err(fault) => fault.code(),
-    }
+    fill_or_tell!(alloc, ask => stream_of(alloc, scope, name, unit, Shape::Gauge), stream => Content::Ask(all(alloc, stream)))
 }
 
 /// Asks for the points of a histogram of these bounds: of all services, with a row for each attribute set.
@@ -144,7 +132,7 @@ pub extern "C" fn kit_ask_service(alloc: Global, ask: &mut KitAsk, service: &[u8
     ensures value { result ≡ pos 0 → ask_of ask.new ≡ in_one (λ a. record a { service = Some service.now }) (ask_of ask.old) }
     ensures unchanged { result ≢ pos 0 → ask_of ask.new ≡ ask_of ask.old }
 {
-    let service = text!(alloc, service);
+    let service = or_code!(text_of(alloc, service));
     with!(alloc, ask => Ask(held), held.service = Some(service));
     OK
 }
@@ -199,17 +187,12 @@ pub extern "C" fn kit_gateway_rows(
     ensures value { result ≡ pos 0
         → rows_of rows.new ≡ from_two (λ g a. rollup_rows a g.points) (gateway_of gateway.old) (ask_of ask.old) }
     ensures unchanged { result ≢ pos 0 → rows_of rows.new ≡ rows_of rows.old }
-    ensures gateway { gateway_of gateway.new ≡ gateway_of gateway.old }
+    ensures gateway { node_of gateway.new ≡ node_of gateway.old }
     ensures ask { ask_of ask.new ≡ ask_of ask.old }
 {
-    if rows.handle.full {
-        return FULL;
-    }
-    match with_two!(alloc, gateway => Gateway(held), ask => Ask(asked), rollup(alloc, held, asked))
-    {
-        Ok(answer) => rows.handle.fill(alloc, Content::Rows(answer)),
-        Err(_) => NO_MEMORY,
-    }
+    fill!(alloc, rows =>
+        with_two!(alloc, gateway => Gateway(held), ask => Ask(asked), rollup(alloc, held.gateway(), asked)),
+        answer => Content::Rows(answer))
 }
 
 /// The table of rows, as a text. The rows stay.
@@ -223,11 +206,5 @@ pub extern "C" fn kit_rows_table(alloc: Global, rows: &mut KitRows, text: &mut K
     ensures unchanged { result ≢ pos 0 → text_in text.new ≡ text_in text.old }
     ensures kept { rows_of rows.new ≡ rows_of rows.old }
 {
-    if text.handle.full {
-        return FULL;
-    }
-    match with!(alloc, rows => Rows(held), table(alloc, held.as_slice())) {
-        Ok(made) => text.handle.fill(alloc, Content::Text(made)),
-        Err(_) => NO_MEMORY,
-    }
+    fill!(alloc, text => with!(alloc, rows => Rows(held), table(alloc, held.as_slice())), made => Content::Text(made))
 }

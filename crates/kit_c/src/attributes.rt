@@ -12,9 +12,9 @@ ghost use Rattle.kit_c.specs.Places.{TellsPlace};
 use crate::content::Content;
 use crate::fault::{FULL, Fault, NO_MEMORY, OK, WRONG_KIND, code_with_place};
 use crate::list::push;
-use crate::text::{text, text_of};
+use crate::text::text_of;
 use crate::typed::{KitAttributes, KitPairs};
-use crate::with::{add_to, copy_of};
+use crate::with::{add_to, copy_of, or_code};
 use attr_kit::{AttrSet, AttrValue, Seq, TryCopy};
 use std::alloc::Global;
 
@@ -32,8 +32,8 @@ pub extern "C" fn kit_pairs_add_text(
     ensures value { result ≡ pos 0 → pairs_of pairs.new ≡ pairs_of pairs.old ++ (key.now, values.Text value.now) ∷ [] }
     ensures unchanged { result ≢ pos 0 → pairs_of pairs.new ≡ pairs_of pairs.old }
 {
-    let key = text!(alloc, key);
-    let value = text!(alloc, value);
+    let key = or_code!(text_of(alloc, key));
+    let value = or_code!(text_of(alloc, value));
     add_to!(alloc, pairs => Pairs, (key, AttrValue::Text(value)))
 }
 
@@ -51,7 +51,7 @@ pub extern "C" fn kit_pairs_add_whole(
     ensures value { result ≡ pos 0 → pairs_of pairs.new ≡ pairs_of pairs.old ++ (key.now, values.Whole value) ∷ [] }
     ensures unchanged { result ≢ pos 0 → pairs_of pairs.new ≡ pairs_of pairs.old }
 {
-    let key = text!(alloc, key);
+    let key = or_code!(text_of(alloc, key));
     add_to!(alloc, pairs => Pairs, (key, AttrValue::Whole(value)))
 }
 
@@ -69,7 +69,7 @@ pub extern "C" fn kit_pairs_add_truth(
     ensures value { result ≡ pos 0 → pairs_of pairs.new ≡ pairs_of pairs.old ++ (key.now, values.Truth value) ∷ [] }
     ensures unchanged { result ≢ pos 0 → pairs_of pairs.new ≡ pairs_of pairs.old }
 {
-    let key = text!(alloc, key);
+    let key = or_code!(text_of(alloc, key));
     add_to!(alloc, pairs => Pairs, (key, AttrValue::Truth(value)))
 }
 

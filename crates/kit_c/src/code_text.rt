@@ -1,15 +1,11 @@
 //! What codes say, for people.
-ghost use Rattle.std.specs.Prelude.{◌≡◌, length};
+ghost use Rattle.std.specs.Prelude.{◌≡◌, List, ℕ, length};
 ghost use Rattle.kit_c.specs.Calls.{filled};
-ghost use Rattle.kit_c.specs.Texts.{code_text, first_text, fourth_text, second_text, third_text};
 
 use crate::text::copy_front;
 
-// What a code of calls, handles, writers and sets says: nothing where it is none.
-#[tactic(auto, unfolding(crate::specs::Texts::first_text))]
-fn first_text(code: i32) -> &'static str
-    ensures { result.now ≡ first_text code }
-{
+// What a code says: nothing where it is none.
+fn text_of_code(code: i32) -> &'static str {
     match code {
         0 => "done",
         1 => "memory was refused",
@@ -32,28 +28,18 @@ fn first_text(code: i32) -> &'static str
         18 => "the writer has as many seats as it may",
         19 => "there is no item of this number",
         20 => "a key is empty",
-        _ => "",
-    }
-}
-
-// What one of plans, rows, messages, bytes and logs says.
-#[tactic(auto, unfolding(crate::specs::Texts::second_text))]
-fn second_text(code: i32) -> &'static str
-    ensures { result.now ≡ second_text code }
-{
-    match code {
-        30 => "a name breaks the rule of names",
-        31 => "a unit breaks the rule of units",
-        32 => "bounds do not strictly rise, or are too many",
-        33 => "a new name breaks the rule of names",
+        30 =>
+            "a name begins with a letter, has letters, digits, '_', '.', '-' and '/' alone, and at most 255 of them",
+        31 => "a unit has ASCII characters alone, and at most 63 of them",
+        32 => "bounds do not strictly rise, or are more than 1024",
+        33 =>
+            "a new name begins with a letter, has letters, digits, '_', '.', '-' and '/' alone, and at most 255 of them",
         34 => "a view of every name gives a new one",
         35 => "an aggregation does not fit its instrument",
         36 => "two instruments feed one stream",
         37 => "the limit is 0",
         38 => "the scope of an instrument is that of tombstones",
-        40 => "a total is wider than the number that it is to be told in",
-        41 => "there is no bucket of this number",
-        42 => "a row or a value is of another shape",
+        42 => "a value is of another shape",
         50 => "the message goes to another id",
         60 => "bytes end within what they begin",
         61 => "bytes do not begin as an export or a message does",
@@ -62,16 +48,6 @@ fn second_text(code: i32) -> &'static str
         64 => "the checksum is not that of the bytes before it",
         65 => "the values are none that an export can have",
         70 => "a log has as many recordings as it may",
-        _ => "",
-    }
-}
-
-// What one of requests says.
-#[tactic(auto, unfolding(crate::specs::Texts::third_text))]
-fn third_text(code: i32) -> &'static str
-    ensures { result.now ≡ third_text code }
-{
-    match code {
         80 => "the bounds of a point do not rise as doubles",
         81 => "the request has more bytes than one may have",
         82 => "bytes begin no field that can stand there",
@@ -97,18 +73,9 @@ fn third_text(code: i32) -> &'static str
         102 => "two attributes of a point have one key",
         103 => "the value of an attribute is of a kind that is not known",
         104 => "what a request says together makes no export",
-        105 => "a text of more than 1024 bytes is repeated too often",
-        _ => "",
-    }
-}
-
-// What one of tombstones and archives says.
-#[tactic(auto, unfolding(crate::specs::Texts::fourth_text))]
-fn fourth_text(code: i32) -> &'static str
-    ensures { result.now ≡ fourth_text code }
-{
-    match code {
         106 => "a point of an export has the scope of tombstones",
+        107 => "a text has more than 1024 bytes",
+        108 => "a point has more than 128 attributes",
         110 => "the incarnation is of another service than the archive",
         111 => "the incarnation is an archive's",
         112 => "the incarnation was adopted before",
@@ -124,28 +91,11 @@ fn fourth_text(code: i32) -> &'static str
     }
 }
 
-// What a code says: nothing where it is none.
-#[tactic(auto, unfolding(crate::specs::Texts::code_text))]
-fn text_of_code(code: i32) -> &'static str
-    ensures { result.now ≡ code_text code }
-{
-    if code < 30 {
-        first_text(code)
-    } else if code < 80 {
-        second_text(code)
-    } else if code < 106 {
-        third_text(code)
-    } else {
-        fourth_text(code)
-    }
-}
-
 /// Copies the front of the text of a code that has room, and answers how many bytes the whole text has, in UTF-8 and with no 0 at its end:
 /// none where the number is no code. It is a clause that begins small and has no full stop.
 #[unsafe(no_mangle)]
 pub extern "C" fn kit_code_text(code: i32, into: &mut [u8]) -> usize
-    ensures value { into.new ≡ filled (code_text code) into.old }
-    ensures len { result ≡ length (code_text code) }
+    ensures { (text : List ℕ) × (into.new ≡ filled text into.old) × (result ≡ length text) }
 {
     copy_front(text_of_code(code).as_bytes(), into)
 }

@@ -4,8 +4,7 @@ use crate::holding::HoldingWriter;
 use crate::incarnations::Incarnation;
 use archive_kit::{Archive, Keeper};
 use attr_kit::{AttrSet, AttrValue, Seq, Txt};
-use gateway_kit::Gateway;
-use gossip_kit::{Message, Node};
+use gossip_kit::Message;
 use plan_kit::{Instrument, Plan, View};
 use point_kit::{Export, Stream};
 use recorder_kit::Recorder;
@@ -30,12 +29,9 @@ pub enum Content {
     Recorder(Recorder),
     Export(Export),
     Exports(Seq<Export>),
-    Gateway(Gateway),
-    /// A gateway that sends messages and takes them in.
-    Node(Node),
+    /// A gateway, which sends messages and takes them in, and shows no point that a tombstone names.
+    Gateway(Keeper),
     Message(Message),
-    /// A node that shows no point that a tombstone names.
-    Keeper(Keeper),
     /// A writer that adopts ended incarnations of others.
     Archive(Archive),
     /// A place at a writer that threads share.

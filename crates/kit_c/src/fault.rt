@@ -1,15 +1,15 @@
 //! Why calls are refused, and the codes that say so.
 ghost use Rattle.std.specs.Prelude.{◌≡◌, ◌≢◌, pos, None};
 ghost use Rattle.std.specs.Option.{unwrap_or};
-ghost use Rattle.kit_c.specs.Codes.{code_of, recording_code, record_code, collection_code, restart_code, attributes_code, plan_code, handing_code, adopting_code, archiving_code, sealing_code, decoding_code, otlp_code, request_code, no_memory};
-ghost use Rattle.kit_c.specs.Places.{decoding_place, otlp_place, place_of, request_place, plan_place, second_of};
+ghost use Rattle.kit_c.specs.Codes.{code_of, recording_code, collection_code, restart_code, attributes_code, plan_code, adopting_code, decoding_code, otlp_code, reason_code, request_code, no_memory};
+ghost use Rattle.kit_c.specs.Places.{attributes_place, collection_place, decoding_place, otlp_place, place_of, plan_place, recording_place, request_place, restart_place, second_of};
 
 use agg_kit::TallyFault;
 use archive_kit::{AdoptFault, ExportRefusal, SealRefusal};
 use attr_kit::{AttrFault, NoMemory};
 use bytes_kit::DecodeFault;
 use gossip_kit::HandFault;
-use otlp_kit::{OtlpFault, RequestFault};
+use otlp_kit::{OtlpFault, RequestFault, RequestReason};
 use plan_kit::PlanFault;
 use recorder_kit::RecordFault;
 use std::alloc::{AllocError, AllocFailed};
@@ -52,11 +52,7 @@ pub enum Fault {
     NoItem,
     /// There is no point of what is asked for.
     NoPoint,
-    /// A total is wider than the number that it is to be told in.
-    TooWide,
-    /// There is no bucket of this number.
-    NoBucket,
-    /// A row's total is of another shape.
+    /// A value is of another shape.
     WrongShape,
     /// The writer that threads share is in another call.
     Busy,
@@ -133,85 +129,75 @@ impl From<RecordFault> for Fault {
     }
 }
 
-fn of_recording(fault: &MeasureFault) -> i32
-    ensures code { result ≡ recording_code fault.now }
-    ensures refused { result ≢ pos 0 }
+fn of_recording(fault: &MeasureFault) -> (i32, Option<u64>)
+    ensures code { result.0 ≡ recording_code fault.now }
+    ensures place { result.1 ≡ recording_place fault.now }
+    ensures refused { result.0 ≢ pos 0 }
+    ensures no_memory { result.0 ≡ no_memory → result.1 ≡ None }
 {
     match fault {
-        MeasureFault::Closed => 10,
-        MeasureFault::Refused(TallyFault::NoHeld) => 7,
-        MeasureFault::Refused(TallyFault::NoInstrument) => 11,
-        MeasureFault::Refused(TallyFault::Negative) => 12,
-        MeasureFault::Refused(TallyFault::Overflow(_)) => 13,
-        MeasureFault::Refused(TallyFault::NoMemory) => 1,
+        MeasureFault::Closed => (10, None),
+        MeasureFault::Refused(TallyFault::NoHeld) => (7, None),
+        MeasureFault::Refused(TallyFault::NoInstrument) => (11, None),
+        MeasureFault::Refused(TallyFault::Negative) => (12, None),
+        MeasureFault::Refused(TallyFault::Overflow(stream)) => (13, Some(*stream as u64)),
+        MeasureFault::Refused(TallyFault::NoMemory) => (1, None),
     }
 }
 
-fn of_record(fault: &RecordFault) -> i32
-    ensures code { result ≡ record_code fault.now }
-    ensures refused { result ≢ pos 0 }
+fn of_collection(fault: &CollectFault) -> (i32, Option<u64>)
+    ensures code { result.0 ≡ collection_code fault.now }
+    ensures place { result.1 ≡ collection_place fault.now }
+    ensures refused { result.0 ≢ pos 0 }
+    ensures no_memory { result.0 ≡ no_memory → result.1 ≡ None }
 {
     match fault {
-        RecordFault::Full => 70,
-        RecordFault::NoMemory => 1,
+        CollectFault::Closed => (10, None),
+        CollectFault::TimeNotAfter(last) => (14, Some(*last)),
+        CollectFault::NoMemory => (1, None),
     }
 }
 
-fn of_collection(fault: &CollectFault) -> i32
-    ensures code { result ≡ collection_code fault.now }
-    ensures refused { result ≢ pos 0 }
+fn of_restart(fault: &RestartFault) -> (i32, Option<u64>)
+    ensures code { result.0 ≡ restart_code fault.now }
+    ensures place { result.1 ≡ restart_place fault.now }
+    ensures refused { result.0 ≢ pos 0 }
+    ensures no_memory { result.0 ≡ no_memory → result.1 ≡ None }
 {
     match fault {
-        CollectFault::Closed => 10,
-        CollectFault::TimeNotAfter(_) => 14,
-        CollectFault::NoMemory => 1,
+        RestartFault::StartNotAfter(start) => (15, Some(*start)),
+        RestartFault::NoMemory => (1, None),
     }
 }
 
-fn of_restart(fault: &RestartFault) -> i32
-    ensures code { result ≡ restart_code fault.now }
-    ensures refused { result ≢ pos 0 }
+fn of_attributes(fault: &AttrFault) -> (i32, Option<u64>)
+    ensures code { result.0 ≡ attributes_code fault.now }
+    ensures place { result.1 ≡ attributes_place fault.now }
+    ensures refused { result.0 ≢ pos 0 }
+    ensures no_memory { result.0 ≡ no_memory → result.1 ≡ None }
 {
     match fault {
-        RestartFault::StartNotAfter(_) => 15,
-        RestartFault::NoMemory => 1,
+        AttrFault::EmptyKey(pair) => (20, Some(*pair as u64)),
+        AttrFault::NoMemory => (1, None),
     }
 }
 
-fn of_attributes(fault: &AttrFault) -> i32
-    ensures code { result ≡ attributes_code fault.now }
-    ensures refused { result ≢ pos 0 }
+fn of_plan(fault: &PlanFault) -> (i32, Option<u64>)
+    ensures code { result.0 ≡ plan_code fault.now }
+    ensures place { result.1 ≡ plan_place fault.now }
+    ensures refused { result.0 ≢ pos 0 }
+    ensures no_memory { result.0 ≡ no_memory → result.1 ≡ None }
 {
     match fault {
-        AttrFault::EmptyKey(_) => 20,
-        AttrFault::NoMemory => 1,
-    }
-}
-
-fn of_plan(fault: &PlanFault) -> i32
-    ensures code { result ≡ plan_code fault.now }
-    ensures refused { result ≢ pos 0 }
-{
-    match fault {
-        PlanFault::BadName(_) => 30,
-        PlanFault::BadUnit(_) => 31,
-        PlanFault::BadBounds(_) => 32,
-        PlanFault::BadRename(_) => 33,
-        PlanFault::WildcardRename(_) => 34,
-        PlanFault::BadAggregation(_, _) => 35,
-        PlanFault::SameStream(_, _) => 36,
-        PlanFault::BadLimit => 37,
-        PlanFault::NoMemory => 1,
-    }
-}
-
-fn of_handing(fault: &HandFault) -> i32
-    ensures code { result ≡ handing_code fault.now }
-    ensures refused { result ≢ pos 0 }
-{
-    match fault {
-        HandFault::NotAddressed => 50,
-        HandFault::NoMemory => 1,
+        PlanFault::BadName(instrument) => (30, Some(*instrument as u64)),
+        PlanFault::BadUnit(instrument) => (31, Some(*instrument as u64)),
+        PlanFault::BadBounds(view) => (32, Some(*view as u64)),
+        PlanFault::BadRename(view) => (33, Some(*view as u64)),
+        PlanFault::WildcardRename(view) => (34, Some(*view as u64)),
+        PlanFault::BadAggregation(instrument, _) => (35, Some(*instrument as u64)),
+        PlanFault::SameStream(first, _) => (36, Some(*first as u64)),
+        PlanFault::BadLimit => (37, None),
+        PlanFault::NoMemory => (1, None),
     }
 }
 
@@ -233,124 +219,136 @@ fn of_adopting(fault: &AdoptFault) -> i32
     }
 }
 
-fn of_archiving(fault: &ExportRefusal) -> i32
-    ensures code { result ≡ archiving_code fault.now }
-    ensures refused { result ≢ pos 0 }
+fn of_decoding(fault: &DecodeFault) -> (i32, Option<u64>)
+    ensures code { result.0 ≡ decoding_code fault.now }
+    ensures place { result.1 ≡ decoding_place fault.now }
+    ensures refused { result.0 ≢ pos 0 }
+    ensures no_memory { result.0 ≡ no_memory → result.1 ≡ None }
 {
     match fault {
-        ExportRefusal::TimeNotLater => 118,
-        ExportRefusal::NoMemory => 1,
+        DecodeFault::Truncated(at) => (60, Some(*at as u64)),
+        DecodeFault::BadMagic(at) => (61, Some(*at as u64)),
+        DecodeFault::BadVersion(at) => (62, Some(*at as u64)),
+        DecodeFault::NotCanonical(at) => (63, Some(*at as u64)),
+        DecodeFault::NotText(at) => (5, Some(*at as u64)),
+        DecodeFault::BadChecksum(at) => (64, Some(*at as u64)),
+        DecodeFault::BadExport(_) => (65, None),
+        DecodeFault::NoMemory => (1, None),
     }
 }
 
-fn of_sealing(fault: &SealRefusal) -> i32
-    ensures code { result ≡ sealing_code fault.now }
-    ensures refused { result ≢ pos 0 }
+fn of_otlp(fault: &OtlpFault) -> (i32, Option<u64>)
+    ensures code { result.0 ≡ otlp_code fault.now }
+    ensures place { result.1 ≡ otlp_place fault.now }
+    ensures refused { result.0 ≢ pos 0 }
+    ensures no_memory { result.0 ≡ no_memory → result.1 ≡ None }
 {
     match fault {
-        SealRefusal::StartNotLater => 119,
-        SealRefusal::Unexported => 120,
+        OtlpFault::BadBounds(point) => (80, Some(*point as u64)),
+        OtlpFault::TooLongText => (107, None),
+        OtlpFault::TooManyAttributes(point) => (108, Some(*point as u64)),
+        OtlpFault::TooLong => (81, None),
+        OtlpFault::NoMemory => (1, None),
     }
 }
 
-fn of_decoding(fault: &DecodeFault) -> i32
-    ensures code { result ≡ decoding_code fault.now }
+fn of_reason(why: &RequestReason) -> i32
+    ensures code { result ≡ reason_code why.now }
     ensures refused { result ≢ pos 0 }
+    ensures no_memory { result ≡ no_memory → why.now ≡ RequestReason.NoMemory }
 {
-    match fault {
-        DecodeFault::Truncated(_) => 60,
-        DecodeFault::BadMagic(_) => 61,
-        DecodeFault::BadVersion(_) => 62,
-        DecodeFault::NotCanonical(_) => 63,
-        DecodeFault::NotText(_) => 5,
-        DecodeFault::BadChecksum(_) => 64,
-        DecodeFault::BadExport(_) => 65,
-        DecodeFault::NoMemory => 1,
+    match why {
+        RequestReason::Malformed => 82,
+        RequestReason::NotText => 5,
+        RequestReason::TooLongText => 107,
+        RequestReason::NoService => 83,
+        RequestReason::NoInstance => 84,
+        RequestReason::NotUuid => 85,
+        RequestReason::ScopeTwice => 86,
+        RequestReason::ExponentialHistogram => 87,
+        RequestReason::Summary => 88,
+        RequestReason::NoData => 89,
+        RequestReason::Delta => 90,
+        RequestReason::NoTemporality => 91,
+        RequestReason::NoRecordedValue => 92,
+        RequestReason::UnknownStart => 93,
+        RequestReason::FloatValue => 94,
+        RequestReason::NoValue => 95,
+        RequestReason::NoSum => 96,
+        RequestReason::NotWhole => 97,
+        RequestReason::Inexact => 98,
+        RequestReason::BadBounds => 99,
+        RequestReason::HalfRange => 100,
+        RequestReason::TooManyAttributes => 108,
+        RequestReason::EmptyKey => 101,
+        RequestReason::AttributeTwice => 102,
+        RequestReason::AttributeValue => 103,
+        RequestReason::BadExport(_) => 104,
+        RequestReason::NoMemory => 1,
     }
 }
 
-fn of_otlp(fault: &OtlpFault) -> i32
-    ensures code { result ≡ otlp_code fault.now }
-    ensures refused { result ≢ pos 0 }
+fn of_request(fault: &RequestFault) -> (i32, Option<u64>)
+    ensures code { result.0 ≡ request_code fault.now }
+    ensures place { result.1 ≡ request_place fault.now }
+    ensures refused { result.0 ≢ pos 0 }
+    ensures no_memory { result.0 ≡ no_memory → result.1 ≡ None }
 {
-    match fault {
-        OtlpFault::BadBounds(_) => 80,
-        OtlpFault::TooLong => 81,
-        OtlpFault::NoMemory => 1,
-    }
-}
-
-fn of_request(fault: &RequestFault) -> i32
-    ensures code { result ≡ request_code fault.now }
-    ensures refused { result ≢ pos 0 }
-{
-    match fault {
-        RequestFault::Malformed(_) => 82,
-        RequestFault::NotText(_) => 5,
-        RequestFault::NoService(_) => 83,
-        RequestFault::NoInstance(_) => 84,
-        RequestFault::NotUuid(_) => 85,
-        RequestFault::ScopeTwice(_) => 86,
-        RequestFault::ExponentialHistogram(_) => 87,
-        RequestFault::Summary(_) => 88,
-        RequestFault::NoData(_) => 89,
-        RequestFault::Delta(_) => 90,
-        RequestFault::NoTemporality(_) => 91,
-        RequestFault::NoRecordedValue(_) => 92,
-        RequestFault::UnknownStart(_) => 93,
-        RequestFault::FloatValue(_) => 94,
-        RequestFault::NoValue(_) => 95,
-        RequestFault::NoSum(_) => 96,
-        RequestFault::NotWhole(_) => 97,
-        RequestFault::Inexact(_) => 98,
-        RequestFault::BadBounds(_) => 99,
-        RequestFault::HalfRange(_) => 100,
-        RequestFault::EmptyKey(_) => 101,
-        RequestFault::AttributeTwice(_) => 102,
-        RequestFault::AttributeValue(_) => 103,
-        RequestFault::Repeats => 105,
-        RequestFault::BadExport(_, _) => 104,
-        RequestFault::NoMemory => 1,
+    match fault.why {
+        RequestReason::NoMemory => (1, None),
+        _ => (of_reason(&fault.why), Some(fault.place as u64)),
     }
 }
 
 impl Fault {
-    /// The code of a refusal.
-    pub(crate) fn code(&self) -> i32
-        ensures code { result ≡ code_of self.now }
-        ensures refused { result ≢ pos 0 }
+    /// The code of a refusal, and the place or the time that it carries.
+    fn told(&self) -> (i32, Option<u64>)
+        ensures code { result.0 ≡ code_of self.now }
+        ensures place { result.1 ≡ place_of self.now }
+        ensures refused { result.0 ≢ pos 0 }
+        ensures no_memory { result.0 ≡ no_memory → result.1 ≡ None }
     {
         match self {
-            Fault::NoMemory => 1,
-            Fault::Nothing => 2,
-            Fault::Full => 4,
-            Fault::NotText => 5,
-            Fault::BadNumber => 6,
-            Fault::NoRow => 8,
-            Fault::NoItem => 19,
-            Fault::NoPoint => 9,
-            Fault::TooWide => 40,
-            Fault::NoBucket => 41,
-            Fault::WrongShape => 42,
-            Fault::Busy => 16,
-            Fault::Exhausted => 17,
-            Fault::SeatsFull => 18,
+            Fault::NoMemory => (1, None),
+            Fault::Nothing => (2, None),
+            Fault::Full => (4, None),
+            Fault::NotText => (5, None),
+            Fault::BadNumber => (6, None),
+            Fault::NoRow => (8, None),
+            Fault::NoItem => (19, None),
+            Fault::NoPoint => (9, None),
+            Fault::WrongShape => (42, None),
+            Fault::Busy => (16, None),
+            Fault::Exhausted => (17, None),
+            Fault::SeatsFull => (18, None),
             Fault::Measure(fault) => of_recording(fault),
             Fault::Collect(fault) => of_collection(fault),
             Fault::Restart(fault) => of_restart(fault),
             Fault::Attributes(fault) => of_attributes(fault),
             Fault::Plan(fault) => of_plan(fault),
-            Fault::ReservedScope(_) => 38,
-            Fault::Hand(fault) => of_handing(fault),
-            Fault::Adopt(fault) => of_adopting(fault),
-            Fault::Archive(fault) => of_archiving(fault),
-            Fault::Seal(fault) => of_sealing(fault),
+            Fault::ReservedScope(instrument) => (38, Some(*instrument as u64)),
+            Fault::Hand(HandFault::NotAddressed) => (50, None),
+            Fault::Hand(HandFault::NoMemory) => (1, None),
+            Fault::Adopt(fault) => (of_adopting(fault), None),
+            Fault::Archive(ExportRefusal::TimeNotLater) => (118, None),
+            Fault::Archive(ExportRefusal::NoMemory) => (1, None),
+            Fault::Seal(SealRefusal::StartNotLater) => (119, None),
+            Fault::Seal(SealRefusal::Unexported) => (120, None),
             Fault::Decode(fault) => of_decoding(fault),
-            Fault::Record(fault) => of_record(fault),
+            Fault::Record(RecordFault::Full) => (70, None),
+            Fault::Record(RecordFault::NoMemory) => (1, None),
             Fault::Otlp(fault) => of_otlp(fault),
             Fault::Request(fault) => of_request(fault),
-            Fault::ReservedPoint(_) => 106,
+            Fault::ReservedPoint(export) => (106, Some(*export as u64)),
         }
+    }
+
+    /// The code of a refusal.
+    pub(crate) fn code(&self) -> i32
+        ensures code { result ≡ code_of self.now }
+        ensures refused { result ≢ pos 0 }
+    {
+        self.told().0
     }
 
     /// The place or the time that a refusal carries.
@@ -358,21 +356,7 @@ impl Fault {
         ensures value { result ≡ place_of self.now }
         ensures no_memory { code_of self.now ≡ no_memory → result ≡ None }
     {
-        match self {
-            Fault::Measure(MeasureFault::Refused(TallyFault::Overflow(stream))) => Some(
-                *stream as u64,
-            ),
-            Fault::Collect(CollectFault::TimeNotAfter(last)) => Some(*last),
-            Fault::Restart(RestartFault::StartNotAfter(start)) => Some(*start),
-            Fault::Attributes(AttrFault::EmptyKey(pair)) => Some(*pair as u64),
-            Fault::Plan(fault) => plan_place(fault),
-            Fault::ReservedScope(instrument) => Some(*instrument as u64),
-            Fault::Decode(fault) => decoding_place(fault),
-            Fault::Otlp(fault) => otlp_place(fault),
-            Fault::Request(fault) => request_place(fault),
-            Fault::ReservedPoint(export) => Some(*export as u64),
-            _ => None,
-        }
+        self.told().1
     }
 
     /// The second place of the refusals that carry two.
@@ -388,84 +372,6 @@ impl Fault {
     }
 }
 
-fn plan_place(fault: &PlanFault) -> Option<u64>
-    ensures value { result ≡ plan_place fault.now }
-    ensures no_memory { plan_code fault.now ≡ no_memory → result ≡ None }
-{
-    match fault {
-        PlanFault::BadName(instrument) => Some(*instrument as u64),
-        PlanFault::BadUnit(instrument) => Some(*instrument as u64),
-        PlanFault::BadBounds(view) => Some(*view as u64),
-        PlanFault::BadRename(view) => Some(*view as u64),
-        PlanFault::WildcardRename(view) => Some(*view as u64),
-        PlanFault::BadAggregation(instrument, _) => Some(*instrument as u64),
-        PlanFault::SameStream(first, _) => Some(*first as u64),
-        PlanFault::BadLimit => None,
-        PlanFault::NoMemory => None,
-    }
-}
-
-fn decoding_place(fault: &DecodeFault) -> Option<u64>
-    ensures value { result ≡ decoding_place fault.now }
-    ensures no_memory { decoding_code fault.now ≡ no_memory → result ≡ None }
-{
-    match fault {
-        DecodeFault::Truncated(at) => Some(*at as u64),
-        DecodeFault::BadMagic(at) => Some(*at as u64),
-        DecodeFault::BadVersion(at) => Some(*at as u64),
-        DecodeFault::NotCanonical(at) => Some(*at as u64),
-        DecodeFault::NotText(at) => Some(*at as u64),
-        DecodeFault::BadChecksum(at) => Some(*at as u64),
-        DecodeFault::BadExport(_) => None,
-        DecodeFault::NoMemory => None,
-    }
-}
-
-fn otlp_place(fault: &OtlpFault) -> Option<u64>
-    ensures value { result ≡ otlp_place fault.now }
-    ensures no_memory { otlp_code fault.now ≡ no_memory → result ≡ None }
-{
-    match fault {
-        OtlpFault::BadBounds(point) => Some(*point as u64),
-        OtlpFault::TooLong => None,
-        OtlpFault::NoMemory => None,
-    }
-}
-
-fn request_place(fault: &RequestFault) -> Option<u64>
-    ensures value { result ≡ request_place fault.now }
-    ensures no_memory { request_code fault.now ≡ no_memory → result ≡ None }
-{
-    match fault {
-        RequestFault::Malformed(at) => Some(*at as u64),
-        RequestFault::NotText(at) => Some(*at as u64),
-        RequestFault::NoService(at) => Some(*at as u64),
-        RequestFault::NoInstance(at) => Some(*at as u64),
-        RequestFault::NotUuid(at) => Some(*at as u64),
-        RequestFault::ScopeTwice(at) => Some(*at as u64),
-        RequestFault::ExponentialHistogram(at) => Some(*at as u64),
-        RequestFault::Summary(at) => Some(*at as u64),
-        RequestFault::NoData(at) => Some(*at as u64),
-        RequestFault::Delta(at) => Some(*at as u64),
-        RequestFault::NoTemporality(at) => Some(*at as u64),
-        RequestFault::NoRecordedValue(at) => Some(*at as u64),
-        RequestFault::UnknownStart(at) => Some(*at as u64),
-        RequestFault::FloatValue(at) => Some(*at as u64),
-        RequestFault::NoValue(at) => Some(*at as u64),
-        RequestFault::NoSum(at) => Some(*at as u64),
-        RequestFault::NotWhole(at) => Some(*at as u64),
-        RequestFault::Inexact(at) => Some(*at as u64),
-        RequestFault::BadBounds(at) => Some(*at as u64),
-        RequestFault::HalfRange(at) => Some(*at as u64),
-        RequestFault::EmptyKey(at) => Some(*at as u64),
-        RequestFault::AttributeTwice(at) => Some(*at as u64),
-        RequestFault::AttributeValue(at) => Some(*at as u64),
-        RequestFault::Repeats => None,
-        RequestFault::BadExport(at, _) => Some(*at as u64),
-        RequestFault::NoMemory => None,
-    }
-}
-
 /// Tells the place that a refusal carries, and answers with its code.
 pub(crate) fn code_with_place(fault: Fault, place: &mut u64) -> i32
     ensures code { result ≡ code_of fault }
@@ -473,10 +379,9 @@ pub(crate) fn code_with_place(fault: Fault, place: &mut u64) -> i32
     ensures place { place.new ≡ unwrap_or (place_of fault) place.old }
     ensures no_memory { result ≡ no_memory → place.new ≡ place.old }
 {
-    if let Some(told) = fault.place() {
-        *place = told;
-    }
-    fault.code()
+    let (code, told) = fault.told();
+    *place = told.unwrap_or(*place);
+    code
 }
 
 /// The same of a refusal that may carry two.
@@ -487,8 +392,6 @@ pub(crate) fn code_with_places(fault: Fault, first: &mut u64, second: &mut u64) 
     ensures second { second.new ≡ unwrap_or (second_of fault) second.old }
     ensures no_memory { result ≡ no_memory → (first.new ≡ first.old) × (second.new ≡ second.old) }
 {
-    if let Some(told) = fault.second() {
-        *second = told;
-    }
+    *second = fault.second().unwrap_or(*second);
     code_with_place(fault, first)
 }

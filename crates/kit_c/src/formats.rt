@@ -8,14 +8,14 @@ ghost use Rattle.page_kit.specs.Pages.{openmetrics_page, prometheus_page};
 ghost use Rattle.kit_c.specs.Calls.{code_for, full_fault, of_one};
 ghost use Rattle.kit_c.specs.Codes.{no_memory};
 ghost use Rattle.kit_c.specs.Formats.{asked_service, page_fault, request_fault};
-ghost use Rattle.kit_c.specs.Held.{bytes_of, export_of, gateway_of, text_of as text_in};
+ghost use Rattle.kit_c.specs.Held.{bytes_of, export_of, gateway_of, node_of, text_of as text_in};
 ghost use Rattle.kit_c.specs.Places.{TellsPlace};
 
 use crate::content::Content;
-use crate::fault::{FULL, Fault, NO_MEMORY, NOTHING, OK, WRONG_KIND, code_with_place};
-use crate::text::{text, text_of};
+use crate::fault::{FULL, Fault, NO_MEMORY, NOTHING, WRONG_KIND, code_with_place};
+use crate::text::text_of;
 use crate::typed::{KitBytes, KitExport, KitGateway, KitText};
-use crate::with::with;
+use crate::with::{fill, or_code, with};
 use attr_kit::{Seq, Txt};
 use otlp_kit::encode_otlp;
 use page_kit::{openmetrics, prometheus};
@@ -25,7 +25,9 @@ use std::alloc::Global;
 /// `Content-Type: application/x-protobuf` (OTLP).
 ///
 /// Refused, in this order: `FULL`; `NOTHING`; `OTLP_BOUNDS` with the least place of a point whose bounds do not strictly rise as doubles;
-/// `TOO_LONG` where the request has more than 2,147,483,647 bytes; `NO_MEMORY`. O(n) in the bytes.
+/// `TOO_LONG_TEXT`, which tells no place, where the service, a scope, a name or a unit has more than 1,024 bytes; `TOO_MANY_ATTRIBUTES`
+/// with the place of the first point that has more than 128; `TOO_LONG` where the request has more than 2,147,483,647 bytes; `NO_MEMORY`. O(n)
+/// in the bytes.
 #[unsafe(no_mangle)]
 pub extern "C" fn kit_export_otlp(
     alloc: Global,
@@ -76,18 +78,12 @@ pub extern "C" fn kit_gateway_openmetrics(
     ensures value { result ≡ pos 0 → text_in text.new
         ≡ option_map (λ g. openmetrics_page (asked_cells (asked_service only service.now) g.points)) (gateway_of gateway.old) }
     ensures unchanged { result ≢ pos 0 → text_in text.new ≡ text_in text.old }
-    ensures kept { gateway_of gateway.new ≡ gateway_of gateway.old }
+    ensures kept { node_of gateway.new ≡ node_of gateway.old }
 {
-    if text.handle.full {
-        return FULL;
-    }
-    let service = text!(alloc, service);
-    match with!(alloc, gateway => Gateway(held), openmetrics(alloc, held, asked(only, &service))) {
-        Ok(made) => text
-            .handle
-            .fill(alloc, Content::Text(Txt::from_string(made))),
-        Err(_) => NO_MEMORY,
-    }
+    fill!(alloc, text => {
+        let service = or_code!(text_of(alloc, service));
+        with!(alloc, gateway => Gateway(held), openmetrics(alloc, held.gateway(), asked(only, &service)))
+    }, made => Content::Text(Txt::from_string(made)))
 }
 
 /// The same page in Prometheus' text format 0.0.4, with `Content-Type: text/plain; version=0.0.4; charset=utf-8`: for all other requests,
@@ -106,16 +102,10 @@ pub extern "C" fn kit_gateway_prometheus(
     ensures value { result ≡ pos 0 → text_in text.new
         ≡ option_map (λ g. prometheus_page (asked_cells (asked_service only service.now) g.points)) (gateway_of gateway.old) }
     ensures unchanged { result ≢ pos 0 → text_in text.new ≡ text_in text.old }
-    ensures kept { gateway_of gateway.new ≡ gateway_of gateway.old }
+    ensures kept { node_of gateway.new ≡ node_of gateway.old }
 {
-    if text.handle.full {
-        return FULL;
-    }
-    let service = text!(alloc, service);
-    match with!(alloc, gateway => Gateway(held), prometheus(alloc, held, asked(only, &service))) {
-        Ok(made) => text
-            .handle
-            .fill(alloc, Content::Text(Txt::from_string(made))),
-        Err(_) => NO_MEMORY,
-    }
+    fill!(alloc, text => {
+        let service = or_code!(text_of(alloc, service));
+        with!(alloc, gateway => Gateway(held), prometheus(alloc, held.gateway(), asked(only, &service)))
+    }, made => Content::Text(Txt::from_string(made)))
 }

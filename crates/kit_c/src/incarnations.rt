@@ -1,20 +1,21 @@
-//! Incarnations of which gateways and messages have points, read by their numbers.
+//! Incarnations of which gateways and messages have points, and services of which gateways have, read by their numbers.
 ghost use Rattle.std.specs.Option.{option_map};
 ghost use Rattle.std.specs.Prelude.{◌≡◌, ◌≢◌, ◌++◌, ◌∷◌, [], pos, length, slice_get, None, Some, IfErr, IfOk, IfSome, OnErr, OnOk};
 ghost use Rattle.attr_kit.specs.Refusing.{first};
 ghost use Rattle.gateway_kit.specs.Listing.{held_of_ref};
 ghost use Rattle.kit_c.specs.Calls.{code_for, filled, full_fault, if_any, of_one};
 ghost use Rattle.kit_c.specs.Codes.{no_memory};
-ghost use Rattle.kit_c.specs.Held.{gateway_of, incarnations_of, message_of};
+ghost use Rattle.kit_c.specs.Held.{gateway_of, incarnations_of, message_of, node_of};
 ghost use Rattle.kit_c.specs.Incarnations.{Tells, incarnations_held, told_incarnation};
 ghost use Rattle.kit_c.specs.Items.{item_fault};
-ghost use Rattle.kit_c.specs.declared.fault.Fault.TheVariants as faults;
+ghost use Rattle.kit_c.specs.Services.{service_fault, service_of};
 
 use crate::content::Content;
 use crate::fault::{FULL, Fault, NO_MEMORY, NOTHING, OK, WRONG_KIND};
+use crate::list::item;
 use crate::text::copy_front;
 use crate::typed::{KitGateway, KitIncarnations, KitMessage};
-use crate::with::with;
+use crate::with::{fill, tell, with};
 use attr_kit::{NoMemory, Seq};
 use gateway_kit::{Gateway, IncarnationRef};
 use gossip_kit::{Body, Message};
@@ -67,15 +68,9 @@ pub extern "C" fn kit_gateway_incarnations(
     ensures value { result ≡ pos 0
         → incarnations_of incarnations.new ≡ option_map (λ g. incarnations_held g.points) (gateway_of gateway.old) }
     ensures unchanged { result ≢ pos 0 → incarnations_of incarnations.new ≡ incarnations_of incarnations.old }
-    ensures kept { gateway_of gateway.new ≡ gateway_of gateway.old }
+    ensures kept { node_of gateway.new ≡ node_of gateway.old }
 {
-    if incarnations.handle.full {
-        return FULL;
-    }
-    match with!(alloc, gateway => Gateway(held), listed(alloc, held)) {
-        Ok(made) => incarnations.handle.fill(alloc, Content::Incarnations(made)),
-        Err(_) => NO_MEMORY,
-    }
+    fill!(alloc, incarnations => with!(alloc, gateway => Gateway(held), listed(alloc, held.gateway())), made => Content::Incarnations(made))
 }
 
 fn carried(alloc: Global, message: &Message) -> Result<Seq<Incarnation>, NoMemory>
@@ -89,7 +84,7 @@ fn carried(alloc: Global, message: &Message) -> Result<Seq<Incarnation>, NoMemor
 }
 
 /// The incarnations of which a message, which stays, carries points, in the same order: who receives it compares them with those of which
-/// its sender may speak, before a node is handed it.
+/// its sender may speak, before a gateway is handed it.
 ///
 /// Refused, in this order: `FULL`; `NOTHING`; `NO_MEMORY`. O(incarnations).
 #[unsafe(no_mangle)]
@@ -105,13 +100,7 @@ pub extern "C" fn kit_message_incarnations(
     ensures unchanged { result ≢ pos 0 → incarnations_of incarnations.new ≡ incarnations_of incarnations.old }
     ensures kept { message_of message.new ≡ message_of message.old }
 {
-    if incarnations.handle.full {
-        return FULL;
-    }
-    match with!(alloc, message => Message(held), carried(alloc, held)) {
-        Ok(made) => incarnations.handle.fill(alloc, Content::Incarnations(made)),
-        Err(_) => NO_MEMORY,
-    }
+    fill!(alloc, incarnations => with!(alloc, message => Message(held), carried(alloc, held)), made => Content::Incarnations(made))
 }
 
 /// Tells how many incarnations there are: they are numbered from 0.
@@ -132,25 +121,12 @@ pub extern "C" fn kit_incarnations_len(
     OK
 }
 
-// The incarnation of a number.
-fn listed_at(list: &Seq<Incarnation>, number: usize) -> Result<&Incarnation, Fault>
-    ensures ok { OnOk result (item_fault number list.now ≡ None) }
-    ensures value { IfOk result (λ i. slice_get list.now number ≡ Some i.now) }
-    ensures err { IfErr result (λ f. item_fault number list.now ≡ Some f) }
-    ensures none { IfErr result (λ f. (slice_get list.now number ≡ None) × (f ≡ faults.NoItem)) }
-{
-    match list.get(number) {
-        Some(incarnation) => Ok(incarnation),
-        None => Err(Fault::NoItem),
-    }
-}
-
 fn read(list: &Seq<Incarnation>, number: usize) -> Result<(u64, u64, u64, u64, usize), Fault>
     ensures ok { OnOk result (item_fault number list.now ≡ None) }
     ensures value { IfOk result (λ t. IfSome (slice_get list.now number) (λ i. Tells i t.0 t.1 t.2 t.3 t.4)) }
     ensures err { IfErr result (λ f. item_fault number list.now ≡ Some f) }
 {
-    let of = listed_at(list, number)?;
+    let of = item(list, number)?;
     let (high, low) = of.writer.instance.as_u64_pair();
     Ok((high, low, of.start, of.newest, of.points))
 }
@@ -197,7 +173,7 @@ fn copy_service(list: &Seq<Incarnation>, number: usize, into: &mut [u8]) -> Resu
     ensures err { IfErr result (λ f. item_fault number list.now ≡ Some f) }
     ensures unchanged { OnErr result (into.new ≡ into.old) }
 {
-    let of = listed_at(list, number)?;
+    let of = item(list, number)?;
     Ok(copy_front(of.writer.service.as_str().as_bytes(), into))
 }
 
@@ -221,11 +197,49 @@ pub extern "C" fn kit_incarnations_service(
     ensures told { result ≢ pos 0 → (into.new ≡ into.old) × (len.new ≡ len.old) }
     ensures kept { incarnations_of incarnations.new ≡ incarnations_of incarnations.old }
 {
-    match with!(alloc, incarnations => Incarnations(held), copy_service(held, number, into)) {
-        Ok(whole) => {
-            *len = whole;
-            OK
-        }
-        Err(fault) => fault.code(),
+    tell!(len => with!(alloc, incarnations => Incarnations(held), copy_service(held, number, into)))
+}
+
+// The service of a number.
+fn service(gateway: &Gateway, number: usize) -> Option<&str>
+    ensures { option_map (λ s. s.now) result ≡ service_of number gateway.now }
+{
+    let mut services = gateway.services();
+    services.nth(number)
+}
+
+fn copy_service_of(gateway: &Gateway, number: usize, into: &mut [u8]) -> Result<usize, Fault>
+    ensures ok { OnOk result (service_fault number gateway.now ≡ None) }
+    ensures value { OnOk result (IfSome (service_of number gateway.now) (λ s. into.new ≡ filled s into.old)) }
+    ensures len { IfOk result (λ n. IfSome (service_of number gateway.now) (λ s. n ≡ length s)) }
+    ensures err { IfErr result (λ f. service_fault number gateway.now ≡ Some f) }
+    ensures unchanged { OnErr result (into.new ≡ into.old) }
+{
+    match service(gateway, number) {
+        Some(name) => Ok(copy_front(name.as_bytes(), into)),
+        None => Err(Fault::NoItem),
     }
+}
+
+/// Copies the front of a service that has room, of those of which a gateway holds points, and tells in `len` how many bytes it has, in
+/// UTF-8 and with no 0 at its end. They are numbered from 0, each once, in order.
+///
+/// Refused, in this order: `NOTHING`; `NO_ITEM` where there is no service of this number: so whoever wants all reads on until then. O(m) of
+/// m incarnations, takes no memory.
+#[unsafe(no_mangle)]
+pub extern "C" fn kit_gateway_service(
+    alloc: Global,
+    gateway: &mut KitGateway,
+    number: usize,
+    into: &mut [u8],
+    len: &mut usize,
+) -> i32
+    ensures code { result ≡ code_for (of_one (gateway_of gateway.old) (service_fault number)) }
+    ensures value { result ≡ pos 0 → IfSome (gateway_of gateway.old)
+        (λ g. IfSome (service_of number g) (λ s. into.new ≡ filled s into.old)) }
+    ensures len { result ≡ pos 0 → IfSome (gateway_of gateway.old) (λ g. IfSome (service_of number g) (λ s. len.new ≡ length s)) }
+    ensures told { result ≢ pos 0 → (into.new ≡ into.old) × (len.new ≡ len.old) }
+    ensures kept { node_of gateway.new ≡ node_of gateway.old }
+{
+    tell!(len => with!(alloc, gateway => Gateway(held), copy_service_of(held.gateway(), number, into)))
 }

@@ -11,9 +11,9 @@ ghost use Rattle.kit_c.specs.Plans.{instrument_of, instruments_fault, planning_f
 use crate::content::Content;
 use crate::fault::{FULL, Fault, NO_MEMORY, OK, WRONG_KIND, code_with_places};
 use crate::list::push;
-use crate::text::{text, text_of};
+use crate::text::text_of;
 use crate::typed::{KitInstruments, KitPlan, KitViews};
-use crate::with::add_to;
+use crate::with::{add_to, or_code};
 use archive_kit::{PlanRefusal, build_plan};
 use attr_kit::{Seq, TryCopy};
 use plan_kit::{Instrument, Kind, Plan, View};
@@ -52,13 +52,10 @@ pub extern "C" fn kit_instruments_add(
         (λ i. instruments_of instruments.new ≡ instruments_of instruments.old ++ i ∷ []) }
     ensures unchanged { result ≢ pos 0 → instruments_of instruments.new ≡ instruments_of instruments.old }
 {
-    let kind = match kind_of(kind) {
-        Ok(kind) => kind,
-        Err(fault) => return fault.code(),
-    };
-    let scope = text!(alloc, scope);
-    let name = text!(alloc, name);
-    let unit = text!(alloc, unit);
+    let kind = or_code!(kind_of(kind));
+    let scope = or_code!(text_of(alloc, scope));
+    let name = or_code!(text_of(alloc, name));
+    let unit = or_code!(text_of(alloc, unit));
     add_to!(alloc, instruments => Instruments, Instrument { scope, name, unit, kind })
 }
 

@@ -1,20 +1,19 @@
-//! The kit as a static library, for C and whatever can call C. docs/EMBEDDING.md tells how it is built and used.
+//! The kit as a static library, for C and whatever can call C. docs/use/SDK.md tells how it is built and used.
 //!
 //! Nothing of it is called from Rattle: each export is a C function whose name begins with `kit_`, declared in
-//! `embed/c/kotskhin.h`. In the order of use:
+//! `sdk/c/kotskhin.h`. In the order of use:
 //!
 //! - A handle has one thing of the kit, or nothing. There is a type of handle for each kind of thing. Who calls owns its 16 bytes, and
 //!   `kit_free` gives up what it has.
 //! - `kit_instruments_add`, `kit_views_add` and `kit_plan_build` make a plan, `kit_writer_start` a writer, `kit_attributes_make` a set.
 //! - `kit_writer_measure` records, `kit_writer_collect` makes an export, and `kit_gateway_take` takes it in.
-//! - `kit_ask_sum`, `kit_gateway_rows` and `kit_rows_table` make a text of what a gateway holds; `kit_rows_sum` and its like tell it as
-//!   numbers, and `kit_rows_attributes` of which labels.
+//! - `kit_ask_sum`, `kit_gateway_rows` and `kit_rows_table` make a text of what a gateway holds; `kit_rows_read` tells a row as numbers,
+//!   and `kit_rows_attributes` of which labels.
 //! - `kit_recorder_measure` and its like are of a thread's own log, which `kit_writer_take_in` takes in; `kit_seat_measure` and its like
-//!   of a writer that threads share, `kit_node_send` and its like of gateways that gossip, `kit_export_encode` and its like of bytes.
-//! - `kit_archive_adopt` and its like are of archives, which adopt ended incarnations of others, and `kit_keeper_take` and its like of
-//!   keepers, nodes that show no point that was adopted.
+//!   of a writer that threads share, `kit_gateway_send` and its like of gateways that gossip, `kit_export_encode` and its like of bytes.
+//! - `kit_archive_adopt` and its like are of archives, which adopt ended incarnations of others. A gateway shows no point that was adopted.
 //!
-//! A caller, from `embed/c/first.c`:
+//! A caller, from `sdk/c/first.c`:
 //!
 //!     MUST(kit_writer_start(&writer, &plan, TEXT("shop"), 0, 1, 100));
 //!     MUST(kit_attributes_make(&none, &pairs, &place));
@@ -35,7 +34,6 @@
 mod archives;
 mod ask;
 mod attributes;
-mod bytes;
 mod code_text;
 mod content;
 mod desk;
@@ -44,23 +42,19 @@ mod fault;
 mod formats;
 mod gateway;
 mod handle;
-mod histograms;
 mod holding;
 mod incarnations;
 mod inner;
 mod instruments;
-mod keepers;
-mod keys;
 mod list;
 mod loose;
 mod messages;
-mod nodes;
 mod pairs;
 mod recorders;
 mod requests;
+mod row;
 mod rows;
 mod seats;
-mod services;
 mod sets;
 mod streams;
 mod taken;
@@ -68,6 +62,5 @@ mod text;
 mod typed;
 mod version;
 mod views;
-mod wide;
 mod with;
 mod writer;

@@ -1,6 +1,9 @@
-//! Lists that grow behind handles.
-ghost use Rattle.std.specs.Prelude.{◌≡◌, ◌++◌, ◌∷◌, [], OnOk, OnErr};
+//! Lists behind handles, which grow, and whose items are read by their numbers.
+ghost use Rattle.std.specs.Prelude.{◌≡◌, ◌++◌, ◌∷◌, [], slice_get, None, Some, IfErr, IfOk, OnOk, OnErr};
+ghost use Rattle.kit_c.specs.Items.{item_fault};
+ghost use Rattle.kit_c.specs.declared.fault.Fault.TheVariants as faults;
 
+use crate::fault::Fault;
 use attr_kit::{NoMemory, Seq};
 use std::alloc::Global;
 
@@ -14,4 +17,17 @@ pub(crate) fn push<T: Drop>(alloc: Global, list: &mut Seq<T>, item: T) -> Result
     *list = Seq::from_vec(items);
     outcome?;
     Ok(())
+}
+
+/// The item of a number.
+pub(crate) fn item<T>(list: &Seq<T>, number: usize) -> Result<&T, Fault>
+    ensures ok { OnOk result (item_fault number list.now ≡ None) }
+    ensures value { IfOk result (λ x. slice_get list.now number ≡ Some x.now) }
+    ensures err { IfErr result (λ f. item_fault number list.now ≡ Some f) }
+    ensures none { IfErr result (λ f. (slice_get list.now number ≡ None) × (f ≡ faults.NoItem)) }
+{
+    match list.get(number) {
+        Some(item) => Ok(item),
+        None => Err(Fault::NoItem),
+    }
 }

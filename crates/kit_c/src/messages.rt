@@ -1,15 +1,18 @@
-//! Messages as bytes, for other processes, and gateways as messages of all that they hold.
-ghost use Rattle.std.specs.Option.{option_map, unwrap_or};
-ghost use Rattle.std.specs.Prelude.{◌≡◌, ◌≢◌, ◌∷◌, [], pos, true, None, Some, IfErr, IfOk};
+//! Messages, by which gateways tell each other what changed, also as bytes.
+ghost use Rattle.std.specs.Option.{is_some, option_map, unwrap_or};
+ghost use Rattle.std.specs.Prelude.{◌≡◌, ◌≢◌, ◌∷◌, [], pos, true, None, Some, IfErr, IfOk, IfSome, IsSome, OnErr, OnOk};
 ghost use Rattle.attr_kit.specs.Refusing.{first};
 ghost use Rattle.bytes_kit.specs.MessageFits.{IsMessage, IsSoundPoints};
 ghost use Rattle.bytes_kit.specs.Messages.{bytes_of_message};
+ghost use Rattle.gossip_kit.specs.Gossip.{acked_after, answer_of};
 ghost use Rattle.gossip_kit.specs.Views.{MessageModel};
 ghost use Rattle.kit_c.specs.Bytes.{HasMessageForm, IsMessageFault, IsMessageOf};
-ghost use Rattle.kit_c.specs.Calls.{code_for, full_fault, if_any, of_one};
+ghost use Rattle.kit_c.specs.Calls.{code_for, full_fault, if_any, of_one, of_two};
 ghost use Rattle.kit_c.specs.Codes.{code_of, no_memory};
-ghost use Rattle.kit_c.specs.Held.{bytes_of, gateway_of, message_of};
-ghost use Rattle.kit_c.specs.Nodes.{carried_by, whole_of};
+ghost use Rattle.kit_c.specs.Gateways.{Joins};
+ghost use Rattle.kit_c.specs.Held.{bytes_of, message_of, node_of};
+ghost use Rattle.kit_c.specs.Messages.{HasHeard, IsAckKnown, IsFromTo, IsMessageTo, KnowsAck, answer_in, handing_fault};
+ghost use Rattle.kit_c.specs.Owned.{box_value};
 ghost use Rattle.kit_c.specs.Places.{place_of};
 ghost use Rattle.kit_c.specs.Typed.{is_message, message_in};
 ghost use Rattle.kit_c.specs.declared.fault.Fault.{Fault};
@@ -17,14 +20,155 @@ ghost use Rattle.kit_c.specs.declared.fault.Fault.{Fault};
 use crate::content::Content;
 use crate::fault::{FULL, Fault, NO_MEMORY, NOTHING, OK, WRONG_KIND, code_with_place};
 use crate::typed::{KitBytes, KitGateway, KitMessage};
-use crate::with::with;
+use crate::with::{fill, put, with, with_two};
+use archive_kit::Keeper;
 use attr_kit::{NoMemory, Seq};
 use bytes_kit::{decode_message, encode_message};
-use gateway_kit::Gateway;
-use gossip_kit::{Body, Message};
+use gossip_kit::{Body, HandFault, Message};
 use std::alloc::Global;
 
-/// The bytes of a message, which stays: they may go to a node in another process. Each message has one form.
+/// A message to the gateway of an id. It carries what changed since the last message of which that gateway's answer was handed here,
+/// so a message may be lost, come late or come twice.
+///
+/// Refused, in this order: `FULL`; `NOTHING`; `NO_MEMORY`.
+#[unsafe(no_mangle)]
+pub extern "C" fn kit_gateway_send(
+    alloc: Global,
+    gateway: &mut KitGateway,
+    to: u32,
+    message: &mut KitMessage,
+) -> i32
+    ensures code { result ≢ no_memory
+        → result ≡ code_for (first (full_fault (message_of message.old) ∷ of_one (node_of gateway.old) if_any ∷ [])) }
+    ensures value { result ≡ pos 0 → IsMessageTo to (node_of gateway.old) (message_of message.new) }
+    ensures short { result ≡ no_memory → first (full_fault (message_of message.old) ∷ of_one (node_of gateway.old) if_any ∷ []) ≡ None }
+    ensures unchanged { result ≢ pos 0 → message_of message.new ≡ message_of message.old }
+    ensures kept { node_of gateway.new ≡ node_of gateway.old }
+{
+    fill!(alloc, message => with!(alloc, gateway => Gateway(held), held.node().send(to)), made => Content::Message(made))
+}
+
+// Room for the answer to a message: a delta alone is answered.
+fn room_for(alloc: Global, message: &Message) -> Result<Option<Box<Content>>, NoMemory>
+    ensures asked { IfOk result (λ room. is_some room ≡ is_some message.now.delta) }
+    ensures unasked { message.now.delta ≡ None → IfErr result (λ e. ⊥) }
+    ensures acked { IsSome message.now.ack → IfErr result (λ e. ⊥) }
+{
+    match message.body() {
+        Body::Delta { .. } => Ok(Some(Box::new(alloc, Content::Keys(Seq::new(alloc)))?)),
+        _ => Ok(None),
+    }
+}
+
+// An answer, in the room that was taken for it.
+fn put_answer(answer: Option<Message>, room: Option<Box<Content>>) -> Option<Box<Content>>
+    ensures kind { is_message (box_value result) ≡ true }
+    ensures value { (is_some answer ≡ true → is_some room ≡ true) → message_in (box_value result) ≡ answer }
+{
+    match (answer, room) {
+        (Some(answer), Some(mut room)) => {
+            *room = Content::Message(answer);
+            Some(room)
+        }
+        _ => None,
+    }
+}
+
+// Hands a gateway a message. The room of the answer is taken before, since nothing can be refused once the gateway has changed.
+#[tactic(auto, unfolding(gossip_kit::specs::Gossip::hand_fault))]
+fn hand(
+    alloc: Global,
+    gateway: &mut Keeper,
+    message: &Message,
+) -> Result<Option<Box<Content>>, Fault>
+    ensures ok { OnOk result (handing_fault gateway.old message.now ≡ None) }
+    ensures value { OnOk result (Joins message.now.points (acked_after gateway.old message.now) gateway.old gateway.new) }
+    ensures kind { IfOk result (λ made. is_message (box_value made) ≡ true) }
+    ensures answer { IfOk result (λ made. message_in (box_value made) ≡ answer_of gateway.old message.now) }
+    ensures err { IfErr result (λ f. code_of f ≢ no_memory → handing_fault gateway.old message.now ≡ Some f) }
+    ensures short { IfErr result (λ f. code_of f ≡ no_memory → handing_fault gateway.old message.now ≡ None) }
+    ensures known { IsAckKnown gateway.old message.now → IfErr result (λ f. code_of f ≢ no_memory) }
+    ensures unchanged { OnErr result (gateway.new ≡ gateway.old) }
+{
+    if message.to() != gateway.gateway().id() {
+        return Err(Fault::Hand(HandFault::NotAddressed));
+    }
+    let room = room_for(alloc, message)?;
+    match gateway.hand(message) {
+        Ok(answer) => Ok(put_answer(answer, room)),
+        Err(fault) => Err(Fault::Hand(fault)),
+    }
+}
+
+/// Hands a gateway a message, which stays, and forgets what a tombstone then names. It tells whether the message is to be answered: then
+/// `answer` has the message to its sender.
+///
+/// Refused, in this order: `FULL` of the answer; `NOTHING` of the gateway, then of the message; `NOT_ADDRESSED` where the
+/// message goes to another id; `NO_MEMORY`.
+#[unsafe(no_mangle)]
+pub extern "C" fn kit_gateway_hand(
+    alloc: Global,
+    gateway: &mut KitGateway,
+    message: &mut KitMessage,
+    answer: &mut KitMessage,
+    answered: &mut bool,
+) -> i32
+    ensures code { result ≢ no_memory → result ≡ code_for (first (full_fault (message_of answer.old)
+        ∷ of_two (node_of gateway.old) (message_of message.old) handing_fault ∷ [])) }
+    ensures value { result ≡ pos 0 → HasHeard (node_of gateway.old) (message_of message.old) (node_of gateway.new) }
+    ensures answer { result ≡ pos 0 → message_of answer.new ≡ answer_in (node_of gateway.old) (message_of message.old) }
+    ensures answered { result ≡ pos 0 → answered.new ≡ is_some (answer_in (node_of gateway.old) (message_of message.old)) }
+    ensures short { result ≡ no_memory → first (full_fault (message_of answer.old)
+        ∷ of_two (node_of gateway.old) (message_of message.old) handing_fault ∷ []) ≡ None }
+    ensures known { KnowsAck (node_of gateway.old) (message_of message.old) → result ≢ no_memory }
+    ensures unchanged { result ≢ pos 0
+        → (node_of gateway.new ≡ node_of gateway.old) × (message_of answer.new ≡ message_of answer.old) }
+    ensures told { result ≢ pos 0 → answered.new ≡ answered.old }
+    ensures kept { message_of message.new ≡ message_of message.old }
+{
+    if answer.handle.full {
+        return FULL;
+    }
+    match with_two!(alloc, gateway => Gateway(held), message => Message(read), hand(alloc, held, read))
+    {
+        Ok(Some(made)) => {
+            answer.handle.put(made);
+            *answered = true;
+            OK
+        }
+        Ok(None) => {
+            *answered = false;
+            OK
+        }
+        Err(fault) => fault.code(),
+    }
+}
+
+/// Tells from which id and to which a message goes, and how many points it carries: an answer carries none.
+///
+/// Refused: `NOTHING`. Takes no memory.
+#[unsafe(no_mangle)]
+pub extern "C" fn kit_message_read(
+    alloc: Global,
+    message: &mut KitMessage,
+    from: &mut u32,
+    to: &mut u32,
+    points: &mut usize,
+) -> i32
+    ensures code { result ≡ code_for (of_one (message_of message.old) if_any) }
+    ensures value { result ≡ pos 0 → IfSome (message_of message.old) (IsFromTo from.new to.new points.new) }
+    ensures told { result ≢ pos 0 → (from.new ≡ from.old) × (to.new ≡ to.old) × (points.new ≡ points.old) }
+    ensures kept { message_of message.new ≡ message_of message.old }
+{
+    let (sender, receiver, carried) =
+        with!(alloc, message => Message(held), (held.from(), held.to(), held.points_len()));
+    *from = sender;
+    *to = receiver;
+    *points = carried;
+    OK
+}
+
+/// The bytes of a message, which stays: they may go to a gateway in another process. Each message has one form.
 ///
 /// Refused, in this order: `FULL`; `NOTHING`; `NO_MEMORY`. O(n) in the bytes.
 #[unsafe(no_mangle)]
@@ -40,15 +184,7 @@ pub extern "C" fn kit_message_encode(
     ensures unchanged { result ≢ pos 0 → bytes_of bytes.new ≡ bytes_of bytes.old }
     ensures kept { message_of message.new ≡ message_of message.old }
 {
-    if bytes.handle.full {
-        return FULL;
-    }
-    match with!(alloc, message => Message(held), encode_message(alloc, held)) {
-        Ok(made) => bytes
-            .handle
-            .fill(alloc, Content::Bytes(Seq::from_vec(made))),
-        Err(_) => NO_MEMORY,
-    }
+    fill!(alloc, bytes => with!(alloc, message => Message(held), encode_message(alloc, held)), made => Content::Bytes(Seq::from_vec(made)))
 }
 
 fn decode(alloc: Global, bytes: &[u8]) -> Result<Box<Content>, Fault>
@@ -88,90 +224,5 @@ pub extern "C" fn kit_message_decode(
     ensures no_memory { result ≡ no_memory → place.new ≡ place.old }
     ensures unchanged { result ≢ pos 0 → message_of message.new ≡ message_of message.old }
 {
-    if message.handle.full {
-        return FULL;
-    }
-    match decode(alloc, bytes) {
-        Ok(made) => {
-            message.handle.put(made);
-            OK
-        }
-        Err(fault) => code_with_place(fault, place),
-    }
-}
-
-// A gateway of the sender's id that merged what a message carries.
-fn carried(alloc: Global, message: &Message) -> Result<Gateway, NoMemory>
-    ensures { IfOk result (λ g. g ≡ carried_by message.now) }
-{
-    let mut gateway = Gateway::new(alloc, message.from());
-    match message.body() {
-        Body::Whole(points) => gateway.merge(points)?,
-        Body::Delta { cells, .. } => gateway.merge(cells)?,
-        Body::Ack(_) => gateway.merge(&Gateway::new(alloc, 0))?,
-    };
-    Ok(gateway)
-}
-
-/// What a message carries, as a gateway of its sender's id: to see whose points they are before a node is handed it, and the way back from
-/// `kit_gateway_encode`. The message stays.
-///
-/// Refused, in this order: `FULL`; `NOTHING`; `NO_MEMORY`. O(size of the points).
-#[unsafe(no_mangle)]
-pub extern "C" fn kit_message_gateway(
-    alloc: Global,
-    message: &mut KitMessage,
-    gateway: &mut KitGateway,
-) -> i32
-    ensures code { result ≢ no_memory
-        → result ≡ code_for (first (full_fault (gateway_of gateway.old) ∷ of_one (message_of message.old) if_any ∷ [])) }
-    ensures value { result ≡ pos 0 → gateway_of gateway.new ≡ option_map (λ m. carried_by m) (message_of message.old) }
-    ensures unchanged { result ≢ pos 0 → gateway_of gateway.new ≡ gateway_of gateway.old }
-    ensures kept { message_of message.new ≡ message_of message.old }
-{
-    if gateway.handle.full {
-        return FULL;
-    }
-    match with!(alloc, message => Message(held), carried(alloc, held)) {
-        Ok(made) => gateway.handle.fill(alloc, Content::Gateway(made)),
-        Err(_) => NO_MEMORY,
-    }
-}
-
-fn encode_whole(alloc: Global, gateway: &Gateway) -> Result<Vec<u8>, NoMemory>
-    ensures { IfOk result (λ made. made.items ≡ bytes_of_message (whole_of gateway.now)) }
-{
-    let id = gateway.id();
-    encode_message(
-        alloc,
-        &Message::new(id, id, Body::Whole(gateway.try_copy()?)),
-    )
-}
-
-/// A gateway's id and points as bytes, to be kept and brought back: those of a message of all that it holds, from it to itself.
-/// `kit_message_decode` reads them, and `kit_message_gateway` makes the gateway of that. The gateway stays; it is copied once.
-///
-/// Refused, in this order: `FULL`; `NOTHING`; `NO_MEMORY`. O(size of the points).
-#[unsafe(no_mangle)]
-pub extern "C" fn kit_gateway_encode(
-    alloc: Global,
-    gateway: &mut KitGateway,
-    bytes: &mut KitBytes,
-) -> i32
-    ensures code { result ≢ no_memory
-        → result ≡ code_for (first (full_fault (bytes_of bytes.old) ∷ of_one (gateway_of gateway.old) if_any ∷ [])) }
-    ensures value { result ≡ pos 0
-        → bytes_of bytes.new ≡ option_map (λ g. bytes_of_message (whole_of g)) (gateway_of gateway.old) }
-    ensures unchanged { result ≢ pos 0 → bytes_of bytes.new ≡ bytes_of bytes.old }
-    ensures kept { gateway_of gateway.new ≡ gateway_of gateway.old }
-{
-    if bytes.handle.full {
-        return FULL;
-    }
-    match with!(alloc, gateway => Gateway(held), encode_whole(alloc, held)) {
-        Ok(made) => bytes
-            .handle
-            .fill(alloc, Content::Bytes(Seq::from_vec(made))),
-        Err(_) => NO_MEMORY,
-    }
+    put!(message => decode(alloc, bytes), fault => fault, place)
 }

@@ -10,12 +10,13 @@ ghost use Rattle.recorder_kit.specs.Log.{ByNumber};
 use crate::content::Content;
 use crate::fault::{FULL, Fault, NO_MEMORY, NOTHING, OK, WRONG_KIND};
 use crate::typed::{KitAttributes, KitRecorder};
-use crate::with::{with, with_two};
+use crate::with::{fill, with, with_two};
 use recorder_kit::{RecordFault, Recorder};
 use std::alloc::Global;
 
 /// Makes a log of no recordings, which may have as many as its capacity says: 32 bytes for each are taken now. It needs no writer, and
-/// any may take it in.
+/// any may take it in. Of several logs the one that is taken in last has the last word on a gauge, whenever its values were noted: so a
+/// gauge that threads set in turn is recorded at the writer itself.
 ///
 /// Refused, in this order: `FULL`; `NO_MEMORY`.
 #[unsafe(no_mangle)]
@@ -28,13 +29,7 @@ pub extern "C" fn kit_recorder_new(
     ensures value { result ≡ pos 0 → recorder_of recorder.new ≡ Some (empty_log capacity) }
     ensures unchanged { result ≢ pos 0 → recorder_of recorder.new ≡ recorder_of recorder.old }
 {
-    if recorder.handle.full {
-        return FULL;
-    }
-    match Recorder::new(alloc, capacity) {
-        Ok(made) => recorder.handle.fill(alloc, Content::Recorder(made)),
-        Err(_) => NO_MEMORY,
-    }
+    fill!(alloc, recorder => Recorder::new(alloc, capacity), made => Content::Recorder(made))
 }
 
 /// Notes a recording of a value, by an instrument at an attribute set. No writer is looked at: what no instrument takes is refused once a

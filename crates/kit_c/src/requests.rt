@@ -11,9 +11,10 @@ ghost use Rattle.kit_c.specs.Places.{TellsPlace};
 ghost use Rattle.kit_c.specs.Typed.{exports_in, is_exports};
 
 use crate::content::Content;
-use crate::fault::{FULL, Fault, NO_MEMORY, NOTHING, OK, WRONG_KIND, code_with_place};
+use crate::fault::{FULL, Fault, NOTHING, OK, WRONG_KIND, code_with_place};
+use crate::list::item;
 use crate::typed::{KitExport, KitExports};
-use crate::with::with;
+use crate::with::{fill_or_tell, put, with};
 use archive_kit::SCOPE;
 use attr_kit::Seq;
 use otlp_kit::decode_otlp;
@@ -55,10 +56,10 @@ fn decode(alloc: Global, bytes: &[u8]) -> Result<Box<Content>, Fault>
 /// The exports that the body of a POST to `/v1/metrics` brings (OTLP, with `Content-Type: application/x-protobuf`). Who made the bytes is
 /// not known here: of whom each export is, `kit_export_read` and `kit_export_service` tell.
 ///
-/// Refused, in this order: `FULL`; then for the first thing that is wrong with the bytes, with its place: `MALFORMED`, `NOT_TEXT`; then for
-/// the first that they say and that no export has, in the order of the request, with the place of the resource, scope, metric, point or
-/// export: `NO_SERVICE` to `NO_EXPORT`, and without a place `REPEATS`; `RESERVED_POINT` with the place of the first export that has a
-/// point in the scope kotskhin.archive, which would hide points of others; `NO_MEMORY`.
+/// Refused, in this order: `FULL`; then for the first thing that is wrong with the bytes, with its place: `MALFORMED`, `NOT_TEXT`,
+/// `TOO_LONG_TEXT`; then for the first that they say and that no export has, in the order of the request, with the place of the resource,
+/// scope, metric, point or export: `NO_SERVICE` to `NO_EXPORT`, `TOO_MANY_ATTRIBUTES`; `RESERVED_POINT` with the place of the first export
+/// that has a point in the scope kotskhin.archive, which would hide points of others; `NO_MEMORY`.
 #[unsafe(no_mangle)]
 pub extern "C" fn kit_exports_of_otlp(
     alloc: Global,
@@ -72,16 +73,7 @@ pub extern "C" fn kit_exports_of_otlp(
     ensures place { TellsPlace result (first (full_fault (exports_of exports.old) ∷ bringing_fault bytes.now ∷ [])) place.old place.new }
     ensures unchanged { result ≢ pos 0 → exports_of exports.new ≡ exports_of exports.old }
 {
-    if exports.handle.full {
-        return FULL;
-    }
-    match decode(alloc, bytes) {
-        Ok(made) => {
-            exports.handle.put(made);
-            OK
-        }
-        Err(fault) => code_with_place(fault, place),
-    }
+    put!(exports => decode(alloc, bytes), fault => fault, place)
 }
 
 /// Tells how many exports there are: they are numbered from 0.
@@ -103,10 +95,7 @@ fn copy(exports: &Seq<Export>, number: usize) -> Result<Export, Fault>
     ensures value { IfOk result (λ e. slice_get exports.now number ≡ Some e) }
     ensures err { IfErr result (λ f. code_of f ≢ no_memory → item_fault number exports.now ≡ Some f) }
 {
-    match exports.get(number) {
-        Some(export) => Ok(export.try_copy()?),
-        None => Err(Fault::NoItem),
-    }
+    Ok(item(exports, number)?.try_copy()?)
 }
 
 /// The export of a number. The exports stay.
@@ -125,11 +114,5 @@ pub extern "C" fn kit_exports_read(
     ensures unchanged { result ≢ pos 0 → export_of export.new ≡ export_of export.old }
     ensures kept { exports_of exports.new ≡ exports_of exports.old }
 {
-    if export.handle.full {
-        return FULL;
-    }
-    match with!(alloc, exports => Exports(held), copy(held, number)) {
-        Ok(made) => export.handle.fill(alloc, Content::Export(made)),
-        Err(fault) => fault.code(),
-    }
+    fill_or_tell!(alloc, export => with!(alloc, exports => Exports(held), copy(held, number)), made => Content::Export(made))
 }

@@ -22,7 +22,7 @@ use crate::holding::HoldingWriter;
 use crate::pairs::{Pair, copy_numbers};
 use crate::taken::KitTaken;
 use crate::typed::{KitAttributes, KitExport, KitRecorder, KitSeat, KitWriter};
-use crate::with::{with, with_two};
+use crate::with::{put, tell, with, with_two};
 use attr_kit::{AttrSet, NoMemory, Seq};
 use bumpalo::Bump;
 use recorder_kit::{Recorder, Taken};
@@ -232,14 +232,7 @@ pub extern "C" fn kit_seat_hold(
         → PlainTwoRefused (HoldRefused instrument) (seat_of seat.old) (attributes_of attributes.old) (seat_of seat.new) result }
     ensures kept { attributes_of attributes.new ≡ attributes_of attributes.old }
 {
-    match with_two!(alloc, seat => Desk(desk), attributes => Attributes(set), hold_at(alloc, desk, instrument, set))
-    {
-        Ok(told) => {
-            *number = told;
-            OK
-        }
-        Err(fault) => fault.code(),
-    }
+    tell!(number => with_two!(alloc, seat => Desk(desk), attributes => Attributes(set), hold_at(alloc, desk, instrument, set)))
 }
 
 fn take_in_at(desk: &mut Desk, recorder: &mut Recorder, most: usize) -> Result<Taken, Fault>
@@ -426,14 +419,5 @@ pub extern "C" fn kit_seat_collect(
         → OneRefused (CollectRefused time) (seat_of seat.old) (seat_of seat.new) place.old place.new result }
     ensures unchanged { result ≢ pos 0 → export_of export.new ≡ export_of export.old }
 {
-    if export.handle.full {
-        return FULL;
-    }
-    match with!(alloc, seat => Desk(desk), collect_at(alloc, desk, time)) {
-        Ok(made) => {
-            export.handle.put(made);
-            OK
-        }
-        Err(fault) => code_with_place(fault, place),
-    }
+    put!(export => with!(alloc, seat => Desk(desk), collect_at(alloc, desk, time)), fault => fault, place)
 }

@@ -8,7 +8,7 @@ use crate::content::Content;
 use crate::fault::{Fault, NOTHING, OK, WRONG_KIND};
 use crate::text::copy_front;
 use crate::typed::KitAttributes;
-use crate::with::with;
+use crate::with::{tell, with};
 use attr_kit::{AttrSet, AttrValue, Txt};
 use std::alloc::Global;
 
@@ -73,13 +73,7 @@ pub extern "C" fn kit_attributes_key(
     ensures told { result ≢ pos 0 → (into.new ≡ into.old) × (len.new ≡ len.old) }
     ensures kept { attributes_of attributes.new ≡ attributes_of attributes.old }
 {
-    match with!(alloc, attributes => Attributes(set), copy_key(set, number, into)) {
-        Ok(whole) => {
-            *len = whole;
-            OK
-        }
-        Err(fault) => fault.code(),
-    }
+    tell!(len => with!(alloc, attributes => Attributes(set), copy_key(set, number, into)))
 }
 
 fn value(set: &AttrSet, number: usize) -> Result<(u8, i64), Fault>
@@ -156,11 +150,5 @@ pub extern "C" fn kit_attributes_text(
     ensures told { result ≢ pos 0 → (into.new ≡ into.old) × (len.new ≡ len.old) }
     ensures kept { attributes_of attributes.new ≡ attributes_of attributes.old }
 {
-    match with!(alloc, attributes => Attributes(set), copy_value(set, number, into)) {
-        Ok(whole) => {
-            *len = whole;
-            OK
-        }
-        Err(fault) => fault.code(),
-    }
+    tell!(len => with!(alloc, attributes => Attributes(set), copy_value(set, number, into)))
 }

@@ -6,22 +6,24 @@ ghost use Rattle.plan_kit.specs.Bounds.{default_bounds};
 ghost use Rattle.kit_c.specs.Asks.{all_of};
 ghost use Rattle.kit_c.specs.Calls.{code_for, filled, full_fault, if_any, of_one};
 ghost use Rattle.kit_c.specs.Codes.{code_of, no_memory};
-ghost use Rattle.kit_c.specs.Held.{ask_of, gateway_of, plan_of, streams_of};
+ghost use Rattle.kit_c.specs.Held.{ask_of, export_of, gateway_of, node_of, plan_of, streams_of};
 ghost use Rattle.kit_c.specs.Items.{item_fault};
-ghost use Rattle.kit_c.specs.Streams.{bounds_of, part_fault, shape_number, text_part};
-ghost use Rattle.rollup_kit.specs.Streams.{streams_held};
+ghost use Rattle.kit_c.specs.Streams.{bounds_of, part_fault, shape_number, streams_brought, text_part};
+ghost use Rattle.indexmap.specs.IndexSet.{insert_key};
+ghost use Rattle.rollup_kit.specs.Streams.{stream_eq, streams_held};
 
 use crate::ask::all;
 use crate::content::Content;
 use crate::fault::{FULL, Fault, NO_MEMORY, NOTHING, OK, WRONG_KIND};
+use crate::list::item;
 use crate::text::copy_front;
-use crate::typed::{KitAsk, KitGateway, KitPlan, KitStreams};
-use crate::with::with;
+use crate::typed::{KitAsk, KitExport, KitGateway, KitPlan, KitStreams};
+use crate::with::{fill, fill_or_tell, tell, with};
 use attr_kit::{NoMemory, Seq};
 use gateway_kit::Gateway;
 use indexmap::IndexSet;
 use plan_kit::Plan;
-use point_kit::{Shape, Stream};
+use point_kit::{Export, Shape, Stream};
 use std::alloc::Global;
 
 fn push_copy(copies: &mut Vec<Stream>, stream: &Stream) -> Result<(), NoMemory>
@@ -59,13 +61,7 @@ pub extern "C" fn kit_plan_streams(
     ensures unchanged { result ≢ pos 0 → streams_of streams.new ≡ streams_of streams.old }
     ensures kept { plan_of plan.new ≡ plan_of plan.old }
 {
-    if streams.handle.full {
-        return FULL;
-    }
-    match with!(alloc, plan => Plan(held), self::streams(alloc, held)) {
-        Ok(made) => streams.handle.fill(alloc, Content::Streams(made)),
-        Err(_) => NO_MEMORY,
-    }
+    fill!(alloc, streams => with!(alloc, plan => Plan(held), self::streams(alloc, held)), made => Content::Streams(made))
 }
 
 fn copies_of(alloc: Global, seen: &IndexSet<Stream>) -> Result<Seq<Stream>, NoMemory>
@@ -78,6 +74,44 @@ fn copies_of(alloc: Global, seen: &IndexSet<Stream>) -> Result<Seq<Stream>, NoMe
         }
     }
     Ok(Seq::from_vec(copies))
+}
+
+// Notes a stream, once.
+fn note(seen: &mut IndexSet<Stream>, stream: &Stream) -> Result<(), NoMemory>
+    ensures { OnOk result (seen.new.keys ≡ insert_key stream_eq seen.old.keys stream.now) }
+{
+    if !seen.contains(stream) {
+        seen.insert(stream.try_copy()?)?;
+    }
+    Ok(())
+}
+
+fn brought_streams(alloc: Global, export: &Export) -> Result<Seq<Stream>, NoMemory>
+    ensures { IfOk result (λ copies. copies ≡ streams_brought export.now) }
+{
+    let mut seen = IndexSet::new(alloc);
+    for point in export.points() {
+        note(&mut seen, point.stream.get())?;
+    }
+    copies_of(alloc, &seen)
+}
+
+/// The streams of the points of an export, which stays: each once, in the order in which the points name them first.
+///
+/// Refused, in this order: `FULL`; `NOTHING`; `NO_MEMORY`. O(points), and memory for the streams alone.
+#[unsafe(no_mangle)]
+pub extern "C" fn kit_export_streams(
+    alloc: Global,
+    export: &mut KitExport,
+    streams: &mut KitStreams,
+) -> i32
+    ensures code { result ≢ no_memory
+        → result ≡ code_for (first (full_fault (streams_of streams.old) ∷ of_one (export_of export.old) if_any ∷ [])) }
+    ensures value { result ≡ pos 0 → streams_of streams.new ≡ option_map (λ e. streams_brought e) (export_of export.old) }
+    ensures unchanged { result ≢ pos 0 → streams_of streams.new ≡ streams_of streams.old }
+    ensures kept { export_of export.new ≡ export_of export.old }
+{
+    fill!(alloc, streams => with!(alloc, export => Export(held), brought_streams(alloc, held)), made => Content::Streams(made))
 }
 
 fn held_streams(alloc: Global, gateway: &Gateway) -> Result<Seq<Stream>, NoMemory>
@@ -99,15 +133,9 @@ pub extern "C" fn kit_gateway_streams(
         → result ≡ code_for (first (full_fault (streams_of streams.old) ∷ of_one (gateway_of gateway.old) if_any ∷ [])) }
     ensures value { result ≡ pos 0 → streams_of streams.new ≡ option_map (λ g. streams_held g.points) (gateway_of gateway.old) }
     ensures unchanged { result ≢ pos 0 → streams_of streams.new ≡ streams_of streams.old }
-    ensures kept { gateway_of gateway.new ≡ gateway_of gateway.old }
+    ensures kept { node_of gateway.new ≡ node_of gateway.old }
 {
-    if streams.handle.full {
-        return FULL;
-    }
-    match with!(alloc, gateway => Gateway(held), held_streams(alloc, held)) {
-        Ok(made) => streams.handle.fill(alloc, Content::Streams(made)),
-        Err(_) => NO_MEMORY,
-    }
+    fill!(alloc, streams => with!(alloc, gateway => Gateway(held), held_streams(alloc, held.gateway())), made => Content::Streams(made))
 }
 
 /// Tells how many streams there are: they are numbered from 0.
@@ -124,19 +152,6 @@ pub extern "C" fn kit_streams_len(alloc: Global, streams: &mut KitStreams, count
     OK
 }
 
-// The stream of a number.
-fn stream(streams: &Seq<Stream>, number: usize) -> Result<&Stream, Fault>
-    ensures ok { OnOk result (item_fault number streams.now ≡ None) }
-    ensures value { IfOk result (λ s. slice_get streams.now number ≡ Some s.now) }
-    ensures err { IfErr result (λ f. item_fault number streams.now ≡ Some f) }
-    ensures none { IfErr result (λ f. (slice_get streams.now number ≡ None) × (f ≡ Fault.NoItem)) }
-{
-    match streams.get(number) {
-        Some(stream) => Ok(stream),
-        None => Err(Fault::NoItem),
-    }
-}
-
 fn copy_text(
     streams: &Seq<Stream>,
     number: usize,
@@ -149,7 +164,7 @@ fn copy_text(
     ensures err { IfErr result (λ f. part_fault number part streams.now ≡ Some f) }
     ensures unchanged { OnErr result (into.new ≡ into.old) }
 {
-    let stream = stream(streams, number)?;
+    let stream = item(streams, number)?;
     let text = match part {
         0 => &stream.scope,
         1 => &stream.name,
@@ -181,13 +196,7 @@ pub extern "C" fn kit_streams_text(
     ensures told { result ≢ pos 0 → (into.new ≡ into.old) × (len.new ≡ len.old) }
     ensures kept { streams_of streams.new ≡ streams_of streams.old }
 {
-    match with!(alloc, streams => Streams(held), copy_text(held, number, part, into)) {
-        Ok(whole) => {
-            *len = whole;
-            OK
-        }
-        Err(fault) => fault.code(),
-    }
+    tell!(len => with!(alloc, streams => Streams(held), copy_text(held, number, part, into)))
 }
 
 fn shape(streams: &Seq<Stream>, number: usize) -> Result<(u8, usize), Fault>
@@ -196,7 +205,7 @@ fn shape(streams: &Seq<Stream>, number: usize) -> Result<(u8, usize), Fault>
         (λ s. (t.0 ≡ shape_number s.shape) × (t.1 ≡ length (bounds_of s.shape)))) }
     ensures err { IfErr result (λ f. item_fault number streams.now ≡ Some f) }
 {
-    Ok(match &stream(streams, number)?.shape {
+    Ok(match &item(streams, number)?.shape {
         Shape::Sum { monotonic: true } => (0, 0),
         Shape::Sum { monotonic: false } => (1, 0),
         Shape::Gauge => (2, 0),
@@ -239,7 +248,7 @@ fn copy_bounds(streams: &Seq<Stream>, number: usize, into: &mut [i64]) -> Result
     ensures err { IfErr result (λ f. item_fault number streams.now ≡ Some f) }
     ensures unchanged { OnErr result (into.new ≡ into.old) }
 {
-    Ok(match &stream(streams, number)?.shape {
+    Ok(match &item(streams, number)?.shape {
         Shape::Histogram { bounds } => copy_front(bounds.as_slice(), into),
         _ => copy_front(&[], into),
     })
@@ -264,13 +273,7 @@ pub extern "C" fn kit_streams_bounds(
     ensures told { result ≢ pos 0 → (into.new ≡ into.old) × (len.new ≡ len.old) }
     ensures kept { streams_of streams.new ≡ streams_of streams.old }
 {
-    match with!(alloc, streams => Streams(held), copy_bounds(held, number, into)) {
-        Ok(whole) => {
-            *len = whole;
-            OK
-        }
-        Err(fault) => fault.code(),
-    }
+    tell!(len => with!(alloc, streams => Streams(held), copy_bounds(held, number, into)))
 }
 
 fn copy(streams: &Seq<Stream>, number: usize) -> Result<Stream, Fault>
@@ -278,7 +281,7 @@ fn copy(streams: &Seq<Stream>, number: usize) -> Result<Stream, Fault>
     ensures value { IfOk result (λ s. slice_get streams.now number ≡ Some s) }
     ensures err { IfErr result (λ f. code_of f ≢ no_memory → item_fault number streams.now ≡ Some f) }
 {
-    Ok(stream(streams, number)?.try_copy()?)
+    Ok(item(streams, number)?.try_copy()?)
 }
 
 /// Asks for the points of a stream: of all services, with a row for each attribute set. The streams stay.
@@ -298,13 +301,7 @@ pub extern "C" fn kit_ask_stream(
     ensures unchanged { result ≢ pos 0 → ask_of ask.new ≡ ask_of ask.old }
     ensures kept { streams_of streams.new ≡ streams_of streams.old }
 {
-    if ask.handle.full {
-        return FULL;
-    }
-    match with!(alloc, streams => Streams(held), copy(held, number)) {
-        Ok(stream) => ask.handle.fill(alloc, Content::Ask(all(alloc, stream))),
-        Err(fault) => fault.code(),
-    }
+    fill_or_tell!(alloc, ask => with!(alloc, streams => Streams(held), copy(held, number)), stream => Content::Ask(all(alloc, stream)))
 }
 
 // The bounds of OpenTelemetry's default explicit-bucket histogram.

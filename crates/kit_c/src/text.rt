@@ -36,18 +36,6 @@ pub(crate) fn is_no_text(bytes: &[u8]) -> bool
     str::from_utf8(bytes).is_err()
 }
 
-/// The text of a parameter, or the code that it is none.
-macro_rules! text {
-    ($alloc:ident, $bytes:ident) => {
-        match text_of($alloc, $bytes) {
-            Ok(text) => text,
-            Err(fault) => return fault.code(),
-        }
-    };
-}
-
-pub(crate) use text;
-
 /// Copies the front of items that has room, and answers how many there are.
 pub(crate) fn copy_front<T: Copy>(items: &[T], into: &mut [T]) -> usize
     ensures value { into.new ≡ filled items.now into.old }

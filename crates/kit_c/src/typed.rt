@@ -2,7 +2,7 @@
 //!
 //! All of them are one `KitHandle`, which an empty one of any kind is: so `kit_free` is of all.
 ghost use Rattle.std.specs.Prelude.{◌≡◌, true};
-ghost use Rattle.kit_c.specs.Typed.{is_archive, is_ask, is_attributes, is_bytes, is_export, is_exports, is_gateway, is_incarnations, is_instruments, is_keeper, is_keys, is_message, is_node, is_pairs, is_plan, is_recorder, is_rows, is_seat, is_streams, is_text, is_view, is_views, is_writer};
+ghost use Rattle.kit_c.specs.Typed.{is_archive, is_ask, is_attributes, is_bytes, is_export, is_exports, is_gateway, is_incarnations, is_instruments, is_keys, is_message, is_pairs, is_plan, is_recorder, is_rows, is_seat, is_streams, is_text, is_view, is_views, is_writer};
 
 use crate::handle::KitHandle;
 
@@ -94,7 +94,7 @@ pub struct KitExports {
     pub ghost kind: { is_exports handle.inner.value ≡ true },
 }
 
-/// A gateway, or nothing.
+/// A gateway, which shows no point that an archive adopted, or nothing.
 #[repr(C)]
 #[derive(Drop)]
 pub struct KitGateway {
@@ -102,28 +102,12 @@ pub struct KitGateway {
     pub ghost kind: { is_gateway handle.inner.value ≡ true },
 }
 
-/// A gateway that sends messages and takes them in, or nothing.
-#[repr(C)]
-#[derive(Drop)]
-pub struct KitNode {
-    pub handle: KitHandle,
-    pub ghost kind: { is_node handle.inner.value ≡ true },
-}
-
-/// A message of a node, or nothing.
+/// A message of a gateway, or nothing.
 #[repr(C)]
 #[derive(Drop)]
 pub struct KitMessage {
     pub handle: KitHandle,
     pub ghost kind: { is_message handle.inner.value ≡ true },
-}
-
-/// A node that shows no point that an archive adopted, or nothing.
-#[repr(C)]
-#[derive(Drop)]
-pub struct KitKeeper {
-    pub handle: KitHandle,
-    pub ghost kind: { is_keeper handle.inner.value ≡ true },
 }
 
 /// A writer that adopts ended incarnations of others, or nothing.

@@ -1,24 +1,24 @@
-//! Views: made one by one, and added to a list.
+//! Views, made one by one and added to a list, and keys of attributes.
 ghost use Rattle.std.specs.Prelude.{◌≡◌, ◌≢◌, ◌++◌, ◌∷◌, [], pos, None, Some, IfSome, OnOk, IfErr, IfOk};
 ghost use Rattle.attr_kit.specs.AllowLists.{listed_keys};
 ghost use Rattle.attr_kit.specs.Refusing.{first};
-ghost use Rattle.attr_kit.specs.declared.keep.Keep.TheVariants as keeps;
-ghost use Rattle.plan_kit.specs.declared.view.Aggregation.TheVariants as aggregations;
-ghost use Rattle.plan_kit.specs.declared.view.NameRule.TheVariants as rules;
 ghost use Rattle.kit_c.specs.Calls.{code_for, full_fault, if_any, in_one, of_one};
 ghost use Rattle.kit_c.specs.Codes.{no_memory};
 ghost use Rattle.kit_c.specs.Faults.{text_fault};
 ghost use Rattle.kit_c.specs.Held.{keys_of, view_of, views_of};
 ghost use Rattle.kit_c.specs.Kinds.{kind_fault, numbered_kind};
 ghost use Rattle.kit_c.specs.Views.{aggregation_fault, numbered_aggregation, plain_view};
+ghost use Rattle.attr_kit.specs.declared.keep.Keep.TheVariants as keeps;
+ghost use Rattle.plan_kit.specs.declared.view.Aggregation.TheVariants as aggregations;
+ghost use Rattle.plan_kit.specs.declared.view.NameRule.TheVariants as rules;
 
 use crate::content::Content;
 use crate::fault::{FULL, Fault, NO_MEMORY, NOTHING, OK, WRONG_KIND};
 use crate::instruments::kind_of;
 use crate::list::push;
-use crate::text::{text, text_of};
+use crate::text::text_of;
 use crate::typed::{KitKeys, KitView, KitViews};
-use crate::with::{add_to, copy_of, with};
+use crate::with::{add_to, copy_of, or_code, with};
 use attr_kit::{AllowList, Keep, Seq, TryCopy};
 use plan_kit::{Aggregation, NameRule, View};
 use std::alloc::Global;
@@ -49,7 +49,7 @@ pub extern "C" fn kit_view_of_name(alloc: Global, view: &mut KitView, name: &[u8
     if view.handle.full {
         return FULL;
     }
-    let name = text!(alloc, name);
+    let name = or_code!(text_of(alloc, name));
     view.handle
         .fill(alloc, Content::View(plain(NameRule::Exact(name))))
 }
@@ -80,10 +80,7 @@ pub extern "C" fn kit_view_kind(alloc: Global, view: &mut KitView, kind: u8) -> 
         (λ k. view_of view.new ≡ in_one (λ v. record v { kind = Some k }) (view_of view.old)) }
     ensures unchanged { result ≢ pos 0 → view_of view.new ≡ view_of view.old }
 {
-    let kind = match kind_of(kind) {
-        Ok(kind) => kind,
-        Err(fault) => return fault.code(),
-    };
+    let kind = or_code!(kind_of(kind));
     with!(alloc, view => View(held), held.kind = Some(kind));
     OK
 }
@@ -97,7 +94,7 @@ pub extern "C" fn kit_view_scope(alloc: Global, view: &mut KitView, scope: &[u8]
     ensures value { result ≡ pos 0 → view_of view.new ≡ in_one (λ v. record v { scope = Some scope.now }) (view_of view.old) }
     ensures unchanged { result ≢ pos 0 → view_of view.new ≡ view_of view.old }
 {
-    let scope = text!(alloc, scope);
+    let scope = or_code!(text_of(alloc, scope));
     with!(alloc, view => View(held), held.scope = Some(scope));
     OK
 }
@@ -111,7 +108,7 @@ pub extern "C" fn kit_view_rename(alloc: Global, view: &mut KitView, name: &[u8]
     ensures value { result ≡ pos 0 → view_of view.new ≡ in_one (λ v. record v { rename = Some name.now }) (view_of view.old) }
     ensures unchanged { result ≢ pos 0 → view_of view.new ≡ view_of view.old }
 {
-    let name = text!(alloc, name);
+    let name = or_code!(text_of(alloc, name));
     with!(alloc, view => View(held), held.rename = Some(name));
     OK
 }
@@ -159,10 +156,7 @@ pub extern "C" fn kit_view_aggregation(alloc: Global, view: &mut KitView, number
         (λ a. view_of view.new ≡ in_one (λ v. record v { aggregation = a }) (view_of view.old)) }
     ensures unchanged { result ≢ pos 0 → view_of view.new ≡ view_of view.old }
 {
-    let aggregation = match aggregation_of(number) {
-        Ok(aggregation) => aggregation,
-        Err(fault) => return fault.code(),
-    };
+    let aggregation = or_code!(aggregation_of(number));
     with!(alloc, view => View(held), held.aggregation = aggregation);
     OK
 }
@@ -198,4 +192,17 @@ pub extern "C" fn kit_views_add(alloc: Global, views: &mut KitViews, view: &mut 
         return NO_MEMORY;
     };
     add_to!(alloc, views => Views, copy)
+}
+
+/// Adds a key. A handle that has nothing begins with it.
+///
+/// Refused, in this order: `NOT_TEXT`; `NO_MEMORY`.
+#[unsafe(no_mangle)]
+pub extern "C" fn kit_keys_add(alloc: Global, keys: &mut KitKeys, key: &[u8]) -> i32
+    ensures code { result ≢ no_memory → result ≡ code_for (text_fault key.now) }
+    ensures value { result ≡ pos 0 → keys_of keys.new ≡ keys_of keys.old ++ key.now ∷ [] }
+    ensures unchanged { result ≢ pos 0 → keys_of keys.new ≡ keys_of keys.old }
+{
+    let key = or_code!(text_of(alloc, key));
+    add_to!(alloc, keys => Keys, key)
 }

@@ -46,6 +46,71 @@ macro_rules! with_two {
     }};
 }
 
+/// Fills an empty handle with what is made for it, where memory is given. One that has something is told by `FULL`.
+macro_rules! fill {
+    ($alloc:ident, $into:ident => $outcome:expr, $made:ident => $content:expr) => {{
+        if $into.handle.full {
+            return FULL;
+        }
+        match $outcome {
+            Ok($made) => $into.handle.fill($alloc, $content),
+            Err(_) => NO_MEMORY,
+        }
+    }};
+}
+
+/// The same of what may be refused for other reasons, too.
+macro_rules! fill_or_tell {
+    ($alloc:ident, $into:ident => $outcome:expr, $made:ident => $content:expr) => {{
+        if $into.handle.full {
+            return FULL;
+        }
+        match $outcome {
+            Ok($made) => $into.handle.fill($alloc, $content),
+            Err(fault) => fault.code(),
+        }
+    }};
+}
+
+/// Fills an empty handle with what was made in a box for it, or answers with the code of why it was not, and tells where.
+macro_rules! put {
+    ($into:ident => $outcome:expr, $fault:ident => $refusal:expr, $place:ident) => {{
+        if $into.handle.full {
+            return FULL;
+        }
+        match $outcome {
+            Ok(made) => {
+                $into.handle.put(made);
+                OK
+            }
+            Err($fault) => code_with_place($refusal, $place),
+        }
+    }};
+}
+
+/// What was made, or the code of why it was not.
+macro_rules! or_code {
+    ($outcome:expr) => {
+        match $outcome {
+            Ok(made) => made,
+            Err(fault) => return fault.code(),
+        }
+    };
+}
+
+/// Tells what a call found, or answers with the code of why it did not.
+macro_rules! tell {
+    ($told:ident => $outcome:expr) => {
+        match $outcome {
+            Ok(found) => {
+                *$told = found;
+                OK
+            }
+            Err(fault) => fault.code(),
+        }
+    };
+}
+
 /// Adds an item to the list that a handle has; one that has nothing begins with it.
 macro_rules! add_to {
     ($alloc:ident, $handle:ident => $kind:ident, $item:expr) => {{
@@ -93,5 +158,10 @@ macro_rules! copy_of {
 
 pub(crate) use add_to;
 pub(crate) use copy_of;
+pub(crate) use fill;
+pub(crate) use fill_or_tell;
+pub(crate) use or_code;
+pub(crate) use put;
+pub(crate) use tell;
 pub(crate) use with;
 pub(crate) use with_two;

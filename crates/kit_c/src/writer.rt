@@ -19,9 +19,9 @@ use crate::fault::{FULL, Fault, NO_MEMORY, NOTHING, OK, WRONG_KIND, code_with_pl
 use crate::holding::HoldingWriter;
 use crate::pairs::Pair;
 use crate::taken::KitTaken;
-use crate::text::{text, text_of};
+use crate::text::text_of;
 use crate::typed::{KitAttributes, KitExport, KitPlan, KitRecorder, KitWriter};
-use crate::with::{with, with_two};
+use crate::with::{fill, or_code, put, tell, with, with_two};
 use attr_kit::{AttrSet, NoMemory};
 use bumpalo::Bump;
 use plan_kit::Plan;
@@ -59,18 +59,14 @@ pub extern "C" fn kit_writer_start(
     ensures unchanged { result ≢ pos 0 → writer_of writer.new ≡ writer_of writer.old }
     ensures kept { plan_of plan.new ≡ plan_of plan.old }
 {
-    if writer.handle.full {
-        return FULL;
-    }
-    let service = text!(alloc, service);
-    let id = WriterId {
-        service,
-        instance: Uuid::from_u64_pair(instance_high, instance_low),
-    };
-    match with!(alloc, plan => Plan(held), started(alloc, id, held, start)) {
-        Ok(made) => writer.handle.fill(alloc, Content::Writer(made)),
-        Err(_) => NO_MEMORY,
-    }
+    fill!(alloc, writer => {
+        let service = or_code!(text_of(alloc, service));
+        let id = WriterId {
+            service,
+            instance: Uuid::from_u64_pair(instance_high, instance_low),
+        };
+        with!(alloc, plan => Plan(held), started(alloc, id, held, start))
+    }, made => Content::Writer(made))
 }
 
 /// Records a value of an instrument at an attribute set, in the stream of every feed of the instrument or in none (OpenTelemetry
@@ -154,14 +150,7 @@ pub extern "C" fn kit_writer_hold(
     ensures unchanged { result ≢ pos 0 → writer_of writer.new ≡ writer_of writer.old }
     ensures kept { attributes_of attributes.new ≡ attributes_of attributes.old }
 {
-    match with_two!(alloc, writer => Writer(held), attributes => Attributes(set), hold_lent(alloc, held, instrument, set))
-    {
-        Ok(told) => {
-            *number = told;
-            OK
-        }
-        Err(fault) => fault.code(),
-    }
+    tell!(number => with_two!(alloc, writer => Writer(held), attributes => Attributes(set), hold_lent(alloc, held, instrument, set)))
 }
 
 /// Records a value at the pair of a number, which `kit_writer_hold` told, as `kit_writer_measure` does.
@@ -271,16 +260,7 @@ pub extern "C" fn kit_writer_collect(
     ensures unchanged { result ≢ pos 0
         → (writer_of writer.new ≡ writer_of writer.old) × (export_of export.new ≡ export_of export.old) }
 {
-    if export.handle.full {
-        return FULL;
-    }
-    match with!(alloc, writer => Writer(held), collected(alloc, held, time, false)) {
-        Ok(made) => {
-            export.handle.put(made);
-            OK
-        }
-        Err(fault) => code_with_place(Fault::Collect(fault), place),
-    }
+    put!(export => with!(alloc, writer => Writer(held), collected(alloc, held, time, false)), fault => Fault::Collect(fault), place)
 }
 
 /// Collects for the last time, and closes the writer (OpenTelemetry Metrics SDK, "MetricReader", Shutdown).
@@ -303,16 +283,7 @@ pub extern "C" fn kit_writer_shutdown(
     ensures unchanged { result ≢ pos 0
         → (writer_of writer.new ≡ writer_of writer.old) × (export_of export.new ≡ export_of export.old) }
 {
-    if export.handle.full {
-        return FULL;
-    }
-    match with!(alloc, writer => Writer(held), collected(alloc, held, time, true)) {
-        Ok(made) => {
-            export.handle.put(made);
-            OK
-        }
-        Err(fault) => code_with_place(Fault::Collect(fault), place),
-    }
+    put!(export => with!(alloc, writer => Writer(held), collected(alloc, held, time, true)), fault => Fault::Collect(fault), place)
 }
 
 /// Begins a new incarnation under a later start: the writer is open and has recorded nothing (OpenTelemetry Metrics Data Model,

@@ -7,12 +7,12 @@ use Rattle.point_kit.specs.ExportFaults.{export_fault}
 use Rattle.point_kit.specs.declared.export.Export.{Export}
 use Rattle.point_kit.specs.declared.export_fault.ExportFault.{ExportFault}
 use Rattle.point_kit.specs.declared.writer_id.WriterId.{WriterId}
-use Rattle.otlp_kit.specs.Fields.{and_then}
+use Rattle.otlp_kit.specs.Fields.{and_then, refused}
 use Rattle.otlp_kit.specs.Reading.{Said, said_of, built, add_export}
 use Rattle.otlp_kit.specs.Walks.{walk_from}
 use Rattle.otlp_kit.specs.declared.group.Group.{Group}
 use Rattle.otlp_kit.specs.declared.request_fault.RequestFault.{RequestFault}
-use Rattle.otlp_kit.specs.declared.request_fault.RequestFault.TheVariants as faults
+use Rattle.otlp_kit.specs.declared.request_fault.RequestReason.TheVariants as reasons
 
 abbrev pub said_by : WriterId → Group → Said
 said_by w g = record { writer = w; start = g.start; time = g.time; points = g.points }
@@ -32,11 +32,11 @@ built_on w whole i es new e g gs rest first inv none said pushed =
     ∙ inv
 
 -- a group that makes no export is refused
-pub built_refused : (w : WriterId) (whole : Result (List Said) RequestFault) (i k : ℕ) (es : List Export) (g : Group) (f : ExportFault) (gs rest : List Group) → gs ≡ g ∷ rest → walk_from (add_export w) i (map said_of es) gs ≡ whole → k ≡ length es → export_fault g.start g.time g.points ≡ Some f → whole ≡ Err (faults.BadExport k f)
+pub built_refused : (w : WriterId) (whole : Result (List Said) RequestFault) (i k : ℕ) (es : List Export) (g : Group) (f : ExportFault) (gs rest : List Group) → gs ≡ g ∷ rest → walk_from (add_export w) i (map said_of es) gs ≡ whole → k ≡ length es → export_fault g.start g.time g.points ≡ Some f → whole ≡ Err (refused (reasons.BadExport f) k)
 built_refused w whole i k es g f gs rest first inv at bad =
     sym inv ∙ ap (walk_from (add_export w) i (map said_of es)) first
     ∙ ap (λ (o : Option ExportFault). and_then (and_then (built (length (map said_of es)) (said_by w g) o) (λ s. Ok (map said_of es ++ s ∷ []))) (λ t. walk_from (add_export w) (i + 1) t rest)) bad
-    ∙ ap (λ (n : ℕ). Err (faults.BadExport n f)) (length-map es said_of ∙ sym at)
+    ∙ ap (λ (n : ℕ). Err (refused (reasons.BadExport f) n)) (length-map es said_of ∙ sym at)
 
 pub nothing_left : {A : Type 0} (xs : List A) → length xs ≡ 0 → xs ≡ []
 nothing_left [] e = refl

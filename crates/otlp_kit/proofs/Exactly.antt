@@ -10,12 +10,12 @@ use Rattle.std.proofs.lemmas.Nat.{leading_top, pow_pos, pow-add, from_le_bytes-t
 use Rattle.otlp_kit.specs.Contents.{eights, eights_of}
 use Rattle.otlp_kit.specs.Doubles.{bit_length, unit, goes_up, rounded_by, rounded_size, double_size, sign_bit, double}
 use Rattle.otlp_kit.specs.Exact.{exact_size, signed, exact}
-use Rattle.otlp_kit.specs.Fields.{and_then}
+use Rattle.otlp_kit.specs.Fields.{and_then, refused}
 use Rattle.otlp_kit.specs.Sent.{IsExact, IsNumber}
 use Rattle.otlp_kit.specs.Wire.{eight}
 use Rattle.otlp_kit.specs.declared.field.Content.TheVariants as contents
 use Rattle.otlp_kit.specs.declared.request_fault.RequestFault.{RequestFault}
-use Rattle.otlp_kit.specs.declared.request_fault.RequestFault.TheVariants as faults
+use Rattle.otlp_kit.specs.declared.request_fault.RequestReason.TheVariants as reasons
 use Rattle.otlp_kit.proofs.Doubled.{digits_at}
 use Rattle.otlp_kit.proofs.Wiring.{span}
 
@@ -41,7 +41,7 @@ is_above : (a b : ℕ) → b < a → (a == b) ≡ false
 is_above a b h = grind (arith, nat_tests)
 
 abbrev divided : ℕ → ℕ → ℕ → Result ℕ RequestFault
-divided n f gap = cond ((2 ^ 52 + f) % 2 ^ gap == 0) (Ok ((2 ^ 52 + f) / 2 ^ gap)) (Err (faults.NotWhole n))
+divided n f gap = cond ((2 ^ 52 + f) % 2 ^ gap == 0) (Ok ((2 ^ 52 + f) / 2 ^ gap)) (Err (refused reasons.NotWhole n))
 
 -- by the exponent and the digits behind the first
 sized : (n m e f : ℕ) → e ≤ 52 → 2 ^ 52 + f ≡ m * 2 ^ (52 - e) → exact_size n (e + 1023) f ≡ Ok m
@@ -51,9 +51,9 @@ sized n m e f small digits =
     let whole : (2 ^ 52 + f) % v ≡ 0 = ap (λ (d : ℕ). d % v) digits ∙ multiple m v in
     let size : (2 ^ 52 + f) / v ≡ m = ap (λ (d : ℕ). d / v) digits ∙ mul-div_cancel m (pow_pos (52 - e)) in
     (λ i. cond (is_above (e + 1023) 0 (omega arith) i && (f == 0)) (Ok 0)
-    (cond (is_not_less (e + 1023) 1023 (omega arith) i || is_below (e + 1023) 2047 (omega arith) i) (Err (faults.NotWhole n))
-    (cond (is_not_less 1075 (e + 1023) (omega arith) i) (Err (faults.Inexact n)) (divided n f (gap i)))))
-    ∙ ap (λ (b : Bool). cond b (Ok ((2 ^ 52 + f) / v)) (Err (faults.NotWhole n))) (is_equal ((2 ^ 52 + f) % v) 0 whole)
+    (cond (is_not_less (e + 1023) 1023 (omega arith) i || is_below (e + 1023) 2047 (omega arith) i) (Err (refused reasons.NotWhole n))
+    (cond (is_not_less 1075 (e + 1023) (omega arith) i) (Err (refused reasons.Inexact n)) (divided n f (gap i)))))
+    ∙ ap (λ (b : Bool). cond b (Ok ((2 ^ 52 + f) / v)) (Err (refused reasons.NotWhole n))) (is_equal ((2 ^ 52 + f) % v) 0 whole)
     ∙ ap (λ (k : ℕ). Ok k) size
   where
     nothing_left : (b : ℕ) → 0 % suc b ≡ 0
@@ -202,7 +202,7 @@ packed at place xs all =
     let size = packed_length xs in
     let whole : length bytes % 8 ≡ 0 = omega (arith, size) in
     let many : length bytes / 8 ≡ length xs = omega (arith, size) in
-    ap (λ (b : Bool). cond b (Ok (eights (length bytes / 8) bytes)) (Err (faults.Malformed at))) (is_equal (length bytes % 8) 0 whole)
+    ap (λ (b : Bool). cond b (Ok (eights (length bytes / 8) bytes)) (Err (refused reasons.Malformed at))) (is_equal (length bytes % 8) 0 whole)
     ∙ ap (λ (k : ℕ). Ok (eights k bytes)) many
     ∙ ap (λ (l : List ℕ). Ok l) (unpacked xs all)
 

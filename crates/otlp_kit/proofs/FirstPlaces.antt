@@ -1,19 +1,14 @@
--- Where texts stand first, and texts none of which stands twice.
-use Rattle.std.proofs.Common.{◌≡◌, ℕ, zero, suc, ◌+◌, ◌<◌, List, [], ◌∷◌, ◌++◌, ◌&&◌, ◌||◌, map, Bool, true, false, cond, Option, Some, None, length, take, drop, get_or, sym, ap, ◌∙◌, refl, subst, arith}
-use Rattle.std.proofs.lemmas.Cmp.{eq_by_cmp_equiv, nat_list_eq_equiv}
-use Rattle.std.proofs.lemmas.List.{length-take-le, map-append, take_more, take-append-drop}
-use Rattle.std.proofs.lemmas.Map.Keys.{IsDistinct-push}
+-- Where texts stand first.
+use Rattle.std.proofs.Common.{◌≡◌, ℕ, suc, ◌+◌, ◌<◌, List, [], ◌∷◌, ◌++◌, Bool, true, false, cond, Option, Some, None, length, take, drop, get_or, sym, ap, ◌∙◌, refl, arith}
+use Rattle.std.proofs.lemmas.Cmp.{eq_by_cmp_equiv}
+use Rattle.std.proofs.lemmas.List.{length-take-le, take_more, take-append-drop}
 use Rattle.std.specs.Cmp.{IsEquivalence, nat_cmp_total}
 use Rattle.std.specs.Cmp.Lexicographic.{lists_total, texts_ties}
-use Rattle.std.specs.List.{IsDistinct, list_any, position_from, take-map}
+use Rattle.std.specs.List.{position_from}
 use Rattle.std.specs.Option.{option_or, unwrap_or}
-use Rattle.std.specs.Ordering.{eq_by_cmp, is_eq, nat_cmp, ordering_then}
-use Rattle.std.specs.declared.cmp.Ordering.{Ordering}
-use Rattle.std.specs.declared.cmp.Ordering.TheVariants.{Less, Equal, Greater}
-use Rattle.std.specs.Str.{bytes_eq}
+use Rattle.std.specs.Ordering.{eq_by_cmp, is_eq}
 use Rattle.attr_kit.specs.Exact.{exact_texts}
 use Rattle.attr_kit.specs.Orders.{text_cmp}
-use Rattle.otlp_kit.specs.Hashes.{text_hash}
 use Rattle.otlp_kit.specs.Walks.{first_place}
 
 text_equiv : IsEquivalence (eq_by_cmp text_cmp)
@@ -69,39 +64,3 @@ module _ (texts : List (List ℕ)) (i : ℕ) (text : List ℕ) (within : i < len
       merged (is_text text q) (before q) (before text) i (λ e. ap before (same_text text q e))
       ∙ ap (λ b. option_or (before q) (cond b (Some i) None)) (text_equiv.symm text q)
       ∙ sym (step q)
-
-both_equal : (a b : Ordering) → is_eq (ordering_then a b) ≡ (is_eq a && is_eq b)
-both_equal Less b = refl
-both_equal Equal b = refl
-both_equal Greater b = refl
-
-implied : (a b : Bool) → (b ≡ true → a ≡ true) → (a && b) ≡ b
-implied true b h = refl
-implied false true h = h refl
-implied false false h = refl
-
--- texts tie with their hashes before them exactly where they are one
-pub ties : (t q : List ℕ) → is_eq (ordering_then (nat_cmp (text_hash t) (text_hash q)) (text_cmp t q)) ≡ is_text t q
-ties t q =
-    let same_hash = λ (e : is_text t q ≡ true). ap (λ (u : List ℕ). is_eq (nat_cmp (text_hash t) (text_hash u))) (sym (same_text t q e)) ∙ (eq_by_cmp_equiv nat_cmp_total).refl (text_hash t) in
-    both_equal (nat_cmp (text_hash t) (text_hash q)) (text_cmp t q) ∙ implied _ (is_text t q) same_hash
-
-none_before : (p : List ℕ → Bool) (n i : ℕ) (texts : List (List ℕ)) → position_from p n texts ≡ Some (n + i) → list_any p (take i texts) ≡ false
-none_before p n zero texts e = refl
-none_before p n (suc i) [] e = refl
-none_before p n (suc i) (t ∷ texts) e =
-    elim (p t) as (λ b. cond b (Some n) (position_from p (n + 1) texts) ≡ Some (n + suc i) → (b || list_any p (take i texts)) ≡ false) [
-      | true ↦ λ f. let far : n ≡ n + suc i = ap (λ (o : Option ℕ). unwrap_or o n) f in absurd (omega arith)
-      | false ↦ λ f. let later : n + suc i ≡ n + 1 + i = omega arith in none_before p (n + 1) i texts (f ∙ ap (λ (m : ℕ). Some m) later)
-    ] e
-
-nowhere : (t : List ℕ) (i : ℕ) (texts : List (List ℕ)) (o : Option ℕ) → position_from (is_text t) 0 texts ≡ o → unwrap_or o 0 ≡ i → list_any (is_text t) (take i texts) ≡ false
-nowhere t i texts None none at = ap (λ (n : ℕ). list_any (is_text t) (take n texts)) (sym at)
-nowhere t i texts (Some k) some at = let here : k ≡ 0 + i = omega arith in none_before (is_text t) 0 i texts (some ∙ ap (λ (n : ℕ). Some n) here)
-
--- one more, whose text stands first where it stands
-pub distinct_more : {A : Type 0} (text_of : A → List ℕ) (given : List A) (i : ℕ) (a : A) → i < length given → a ≡ get_or given i a → first_place (map text_of given) (text_of a) ≡ i → IsDistinct bytes_eq (map text_of (take i given)) → IsDistinct bytes_eq (map text_of (take (i + 1) given))
-distinct_more text_of given i a within stands first distinct =
-    let new = (λ j. list_any (λ u. texts_ties (text_of a) u j) (sym (take-map text_of i given) j)) ∙ nowhere (text_of a) i (map text_of given) _ refl first in
-    let more = sym (map-append text_of (take i given) (a ∷ [])) ∙ ap (λ x. map text_of (take i given ++ x ∷ [])) stands ∙ ap (map text_of) (sym (take_more given i a within)) in
-    subst (IsDistinct bytes_eq) more (IsDistinct-push nat_list_eq_equiv (map text_of (take i given)) (text_of a) distinct new)

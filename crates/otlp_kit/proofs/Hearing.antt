@@ -1,5 +1,5 @@
 -- What the crate's own messages say: attributes and points.
-use Rattle.std.proofs.Common.{◌≡◌, ℕ, ◌<◌, ◌≤◌, ◌^◌, cond, Bool, true, false, List, [], ◌∷◌, ◌++◌, map, Option, Some, None, Result, Ok, Err, ℤ, refl, ap, arith}
+use Rattle.std.proofs.Common.{◌≡◌, ℕ, ◌<◌, ◌≤◌, ◌^◌, cond, Bool, true, false, List, [], ◌∷◌, ◌++◌, map, Option, Some, None, Result, Ok, Err, ℤ, refl, ap, ◌∙◌, arith}
 use Rattle.std.specs.Int.{cast_unsigned, w64}
 use Rattle.std.specs.List.{AllByRecursion, flat_map}
 use Rattle.std.specs.Str.{IsUtf8}
@@ -10,8 +10,9 @@ use Rattle.attr_kit.specs.declared.attr_value.AttrValue.{AttrValue}
 use Rattle.attr_kit.specs.declared.attr_value.AttrValue.TheVariants as values
 use Rattle.otlp_kit.specs.Wire.{block, fixed, fixed_unless_zero}
 use Rattle.otlp_kit.specs.Request.{any_value, key_value, attribute, attributes, window, number_point}
-use Rattle.otlp_kit.specs.Fields.{and_then}
+use Rattle.otlp_kit.specs.Fields.{and_then, refused}
 use Rattle.otlp_kit.specs.Contents.{text_of}
+use Rattle.otlp_kit.specs.Limits.{is_long}
 use Rattle.otlp_kit.specs.Messages.{any_step, no_value, key_value_step, no_key_value, number_point_step, no_number_point}
 use Rattle.otlp_kit.specs.Sent.{IsNumber, IsInteger, IsValue, IsPair}
 use Rattle.otlp_kit.specs.declared.key_value.AnyContent.{AnyContent}
@@ -22,7 +23,8 @@ use Rattle.otlp_kit.specs.declared.number_point.Number.{Number}
 use Rattle.otlp_kit.specs.declared.number_point.Number.TheVariants as numbers
 use Rattle.otlp_kit.specs.declared.number_point.NumberPoint.{NumberPoint}
 use Rattle.otlp_kit.specs.declared.request_fault.RequestFault.{RequestFault}
-use Rattle.otlp_kit.specs.declared.request_fault.RequestFault.TheVariants as faults
+use Rattle.otlp_kit.specs.declared.request_fault.RequestReason.TheVariants as reasons
+use Rattle.otlp_kit.proofs.Sendable.{IsName}
 use Rattle.otlp_kit.proofs.Wiring.{span, IsFieldNumber}
 use Rattle.otlp_kit.proofs.Saying.{IsShort, short_front, short_behind, short_block, Says, says_then, says_number, says_fixed, says_block, says_message, says_messages, says_fixed_unless_zero, given_number}
 
@@ -30,7 +32,13 @@ pub numbered : (field : ℕ) → 1 ≤ field → field ≤ 12 → IsFieldNumber 
 numbered field some few = record { least = some; most = omega arith }
 
 pub texts : (place : ℕ) (t : List ℕ) → IsUtf8 t → text_of (span place t) ≡ Ok t
-texts place t h = ap (λ (b : Bool). cond b (Ok t) (Err (faults.NotText place))) (is_utf8-from_IsUtf8 t h)
+texts place t h = ap (λ (b : Bool). cond b (Ok t) (Err (refused reasons.NotText place))) (is_utf8-from_IsUtf8 t h)
+
+-- of a text that has a limit
+pub names : (at place : ℕ) (t : List ℕ) → IsName t → and_then (text_of (span place t)) (λ u. cond (is_long u) (Err (refused reasons.TooLongText at)) (Ok u)) ≡ Ok t
+names at place t h =
+    ap (λ (r : Result (List ℕ) RequestFault). and_then r (λ (u : List ℕ). cond (is_long u) (Err (refused reasons.TooLongText at)) (Ok u))) (texts place t h.0)
+    ∙ ap (λ (b : Bool). cond b (Err (refused reasons.TooLongText at)) (Ok t)) h.1
 
 abbrev pub any_of : AttrValue → AnyContent
 any_of (values.Text t) = anys.Text t

@@ -1,7 +1,6 @@
 -- What the crate's own messages say: metrics, scopes, the resource and the whole request.
-use Rattle.std.proofs.Common.{◌≡◌, ℕ, Bool, true, false, List, [], ◌∷◌, ◌++◌, map, Option, Some, None, Result, Ok, ℤ, pos, refl, sym, ap, subst, arith}
+use Rattle.std.proofs.Common.{◌≡◌, ℕ, cond, Bool, true, false, List, [], ◌∷◌, ◌++◌, map, Option, Some, None, Result, Ok, Err, ℤ, pos, refl, sym, ap, ◌∙◌, subst, arith}
 use Rattle.std.specs.List.{AllByRecursion, flat_map}
-use Rattle.std.specs.Str.{IsUtf8}
 use Rattle.attr_kit.specs.declared.attr_value.AttrValue.{AttrValue}
 use Rattle.point_kit.specs.Orders.{bounds_of}
 use Rattle.point_kit.specs.declared.export.Export.{Export}
@@ -13,13 +12,14 @@ use Rattle.point_kit.specs.declared.shape.Shape.TheVariants as shapes
 use Rattle.point_kit.specs.declared.stream.Stream.{Stream}
 use Rattle.point_kit.specs.declared.writer_id.WriterId.{WriterId}
 use Rattle.otlp_kit.specs.Wire.{block, text_unless_empty}
-use Rattle.otlp_kit.specs.Request.{key_value, attribute, instance, service, resource, number_point, point_fields, fields_of, point, points_of, cumulative, is_monotonic, sum_fields, metric_data, metric_fields, metric, metrics, scope_fields, scope_metrics, scopes, of_one_stream, has_long_text, of_one_scope, resource_metrics, request}
+use Rattle.otlp_kit.specs.Request.{key_value, attribute, instance, service, resource, number_point, point_fields, fields_of, point, points_of, cumulative, is_monotonic, sum_fields, metric_data, metric_fields, metric, metrics, scope_fields, scope_metrics, scopes, of_one_stream, of_one_scope, resource_metrics, request}
 use Rattle.otlp_kit.specs.Request as requests
-use Rattle.otlp_kit.specs.Runs.{runs, parts}
-use Rattle.otlp_kit.specs.Fields.{and_then}
-use Rattle.otlp_kit.specs.Messages.{key_value_step, no_key_value, number_point_step, no_number_point, histogram_point_step, no_histogram_point, gauge_step, no_gauge, sum_step, no_sum, histogram_step, no_histogram, metric_step, no_metric, scope_step, no_scope, scope_metrics_step, no_scope_metrics, resource_step, no_resource, resource_metrics_step, no_resource_metrics, request_step, no_request, request_said}
-use Rattle.otlp_kit.specs.Sent.{IsNumber, IsPair, IsStream}
-use Rattle.otlp_kit.proofs.Sendable.{IsPayload, IsSent}
+use Rattle.otlp_kit.specs.Runs.{runs}
+use Rattle.otlp_kit.specs.Fields.{and_then, refused}
+use Rattle.otlp_kit.specs.Limits.{is_long}
+use Rattle.otlp_kit.specs.Messages.{service_text, key_value_step, no_key_value, number_point_step, no_number_point, histogram_point_step, no_histogram_point, gauge_step, no_gauge, sum_step, no_sum, histogram_step, no_histogram, metric_step, no_metric, scope_step, no_scope, scope_metrics_step, no_scope_metrics, resource_step, no_resource, resource_metrics_step, no_resource_metrics, request_step, no_request, request_said}
+use Rattle.otlp_kit.specs.Sent.{IsNumber, IsPair}
+use Rattle.otlp_kit.proofs.Sendable.{IsName, IsPayload, IsSent}
 use Rattle.otlp_kit.specs.declared.histogram_point.HistogramPoint.{HistogramPoint}
 use Rattle.otlp_kit.specs.declared.key_value.KeyValue.{KeyValue}
 use Rattle.otlp_kit.specs.declared.metric.Data.{Data}
@@ -30,12 +30,13 @@ use Rattle.otlp_kit.specs.declared.metric.Metric.{Metric}
 use Rattle.otlp_kit.specs.declared.metric.Sum.{Sum}
 use Rattle.otlp_kit.specs.declared.number_point.NumberPoint.{NumberPoint}
 use Rattle.otlp_kit.specs.declared.request_fault.RequestFault.{RequestFault}
+use Rattle.otlp_kit.specs.declared.request_fault.RequestReason.TheVariants as reasons
 use Rattle.otlp_kit.specs.declared.resource.Request.{Request}
 use Rattle.otlp_kit.specs.declared.resource.Resource.{Resource}
 use Rattle.otlp_kit.specs.declared.resource.ResourceMetrics.{ResourceMetrics}
 use Rattle.otlp_kit.specs.declared.scope.Scope.{Scope}
 use Rattle.otlp_kit.specs.declared.scope.ScopeMetrics.{ScopeMetrics}
-use Rattle.otlp_kit.proofs.Hearing.{numbered, texts, heard_pair, says_pair, heard_number, says_number_point}
+use Rattle.otlp_kit.proofs.Hearing.{numbered, names, heard_pair, says_pair, heard_number, says_number_point}
 use Rattle.otlp_kit.proofs.HearingPoints.{heard_histogram, says_histogram_point}
 use Rattle.otlp_kit.proofs.Parting.{IsRun, all_of}
 use Rattle.otlp_kit.proofs.Saying.{IsShort, short_front, short_behind, short_block, short_each, both, Says, says_nothing, says_then, says_number, says_block, says_whole, says_each, says_message, says_messages, says_text_unless_empty, given_text}
@@ -213,7 +214,7 @@ module _ (start time : ℕ) where
 
     -- ---- a metric of a run of points of one stream
 
-    says_metric_fields : (s : Stream) (ps : List ExportPoint) → IsStream s → AllByRecursion (OfStream s) ps → IsShort (metric_fields start time s ps) → Says metric_step (metric_fields start time s ps) no_metric (heard_fields s ps)
+    says_metric_fields : (s : Stream) (ps : List ExportPoint) → IsName s.scope × (IsName s.name × IsName s.unit) → AllByRecursion (OfStream s) ps → IsShort (metric_fields start time s ps) → Says metric_step (metric_fields start time s ps) no_metric (heard_fields s ps)
     unfolding metric_fields metric_step
     says_metric_fields s ps fits all short =
         let n = text_unless_empty 1 s.name in
@@ -224,10 +225,10 @@ module _ (start time : ℕ) where
         let gu = given_text s.unit in
         says_then metric_step n (u ++ d) no_metric (metric_with gn None None) (heard_fields s ps)
         (says_text_unless_empty metric_step 1 s.name (λ (x : Option (List ℕ)). metric_with x None None) (numbered 1 (omega arith) (omega arith)) (short_front n (u ++ d) short)
-        (λ at place. ap (λ (r : Result (List ℕ) RequestFault). and_then r (λ (t : List ℕ). Ok (metric_with (Some t) None None))) (texts place s.name fits.1.0)))
+        (λ at place. ap (λ (r : Result (List ℕ) RequestFault). and_then r (λ (t : List ℕ). Ok (metric_with (Some t) None None))) (names at place s.name fits.1.0)))
         (says_then metric_step u d (metric_with gn None None) (metric_with gn gu None) (heard_fields s ps)
         (says_text_unless_empty metric_step 3 s.unit (λ (x : Option (List ℕ)). metric_with gn x None) (numbered 3 (omega arith) (omega arith)) (short_front u d short_rest)
-        (λ at place. ap (λ (r : Result (List ℕ) RequestFault). and_then r (λ (t : List ℕ). Ok (metric_with gn (Some t) None))) (texts place s.unit fits.1.1)))
+        (λ at place. ap (λ (r : Result (List ℕ) RequestFault). and_then r (λ (t : List ℕ). Ok (metric_with gn (Some t) None))) (names at place s.unit fits.1.1)))
         (says_data gn gu s.shape ps (all_of (OfStream s) (OfShape s.shape) (λ p h. (h.0, ap (λ (x : Stream). x.shape) h.1)) ps all) (short_behind u d short_rest)))
 
     says_metric : (scope : Option Scope) (bs : List Metric) (r : List ExportPoint) → IsStreamRun r × IsShort (metric start time r) → Says scope_metrics_step (metric start time r) (scope_metrics_with scope bs) (scope_metrics_with scope (bs ++ heard_metric r ∷ []))
@@ -241,13 +242,13 @@ module _ (start time : ℕ) where
 
     -- ---- a scope
 
-    says_scope : (name : List ℕ) → IsUtf8 name → IsShort (text_unless_empty 1 name) → Says scope_step (text_unless_empty 1 name) no_scope (scope_with (given_text name))
+    says_scope : (name : List ℕ) → IsName name → IsShort (text_unless_empty 1 name) → Says scope_step (text_unless_empty 1 name) no_scope (scope_with (given_text name))
     unfolding scope_step
     says_scope name fits short =
         says_text_unless_empty scope_step 1 name scope_with (numbered 1 (omega arith) (omega arith)) short
-        (λ at place. ap (λ (r : Result (List ℕ) RequestFault). and_then r (λ (t : List ℕ). Ok (scope_with (Some t)))) (texts place name fits))
+        (λ at place. ap (λ (r : Result (List ℕ) RequestFault). and_then r (λ (t : List ℕ). Ok (scope_with (Some t)))) (names at place name fits))
 
-    says_scope_fields : (name : List ℕ) (ps : List ExportPoint) → IsUtf8 name → AllByRecursion IsStreamRun (runs of_one_stream ps) → IsShort (scope_fields start time name ps) → Says scope_metrics_step (scope_fields start time name ps) no_scope_metrics (heard_scope_fields name (runs of_one_stream ps))
+    says_scope_fields : (name : List ℕ) (ps : List ExportPoint) → IsName name → AllByRecursion IsStreamRun (runs of_one_stream ps) → IsShort (scope_fields start time name ps) → Says scope_metrics_step (scope_fields start time name ps) no_scope_metrics (heard_scope_fields name (runs of_one_stream ps))
     unfolding scope_fields metrics scope_metrics_step
     says_scope_fields name ps fits all short =
         let rs = runs of_one_stream ps in
@@ -271,10 +272,10 @@ module _ (start time : ℕ) where
         says_message resource_metrics_step scope_metrics_step no_scope_metrics (heard_scope (p ∷ ps)) 2 bytes (resource_metrics_with resource bs) (λ (s : ScopeMetrics). resource_metrics_with resource (bs ++ s ∷ [])) (numbered 2 (omega arith) (omega arith)) (λ at place. refl) inner
         (says_scope_fields p.stream.scope (p ∷ ps) h.0.0.0.0.stream.0 h.0.1 inner)
 
-    pub says_scopes : (resource : Option Resource) (ps : List ExportPoint) → AllByRecursion IsScopeRun (parts of_one_scope has_long_text ps) → IsShort (scopes start time ps) → Says resource_metrics_step (scopes start time ps) (resource_metrics_with resource []) (resource_metrics_with resource (map heard_scope (parts of_one_scope has_long_text ps)))
+    pub says_scopes : (resource : Option Resource) (ps : List ExportPoint) → AllByRecursion IsScopeRun (runs of_one_scope ps) → IsShort (scopes start time ps) → Says resource_metrics_step (scopes start time ps) (resource_metrics_with resource []) (resource_metrics_with resource (map heard_scope (runs of_one_scope ps)))
     unfolding scopes
     says_scopes resource ps all short =
-        let rs = parts of_one_scope has_long_text ps in
+        let rs = runs of_one_scope ps in
         says_each resource_metrics_step (λ r. IsScopeRun r × IsShort (scope_metrics start time r)) (scope_metrics start time) heard_scope (λ (l : List ScopeMetrics). resource_metrics_with resource l) (says_scope_metrics resource) [] rs
         (both IsScopeRun (λ r. IsShort (scope_metrics start time r)) rs all (short_each (scope_metrics start time) rs short))
 
@@ -286,29 +287,35 @@ resource_with attrs = record { attributes = attrs }
 abbrev pub heard_resource : WriterId → Resource
 heard_resource w = resource_with (heard_pair (instance w) ∷ heard_pair (service w) ∷ [])
 
-pub says_resource : (w : WriterId) → IsPair (instance w) → IsPair (service w) → IsShort (resource w) → Says resource_step (resource w) no_resource (heard_resource w)
-unfolding resource resource_step
-says_resource w instance_fits service_fits short =
+says_attribute : (p : List ℕ × AttrValue) → IsPair p → is_long (service_text (heard_pair p)) ≡ false → (bs : List KeyValue) → IsShort (key_value p) → Says resource_step (attribute 1 p) (resource_with bs) (resource_with (bs ++ heard_pair p ∷ []))
+unfolding resource_step
+says_attribute p fits few bs short =
+    let heard = heard_pair p in
+    says_block resource_step 1 (key_value p) (resource_with bs) (resource_with (bs ++ heard ∷ [])) (numbered 1 (omega arith) (omega arith)) short
+    (λ at place.
+    ap (λ (r : Result KeyValue RequestFault). and_then r (λ (a : KeyValue). and_then (cond (is_long (service_text a)) (Err (refused reasons.TooLongText at)) (Ok (service_text a))) (λ (t : List ℕ). Ok (resource_with (bs ++ a ∷ []))))) (says_whole key_value_step (key_value p) no_key_value heard place (says_pair p fits short))
+    ∙ ap (λ (b : Bool). and_then (cond b (Err (refused reasons.TooLongText at)) (Ok (service_text heard))) (λ (t : List ℕ). Ok (resource_with (bs ++ heard ∷ [])))) few)
+
+pub says_resource : (w : WriterId) → IsPair (instance w) → IsPair (service w) → is_long w.service ≡ false → IsShort (resource w) → Says resource_step (resource w) no_resource (heard_resource w)
+unfolding resource
+says_resource w instance_fits service_fits few short =
     let a = attribute 1 (instance w) in
     let b = attribute 1 (service w) in
-    let short_a = short_block 1 (key_value (instance w)) (short_front a b short) in
-    let short_b = short_block 1 (key_value (service w)) (short_behind a b short) in
-    let heard = heard_pair (instance w) in
-    says_then resource_step a b no_resource (resource_with (heard ∷ [])) (heard_resource w)
-    (says_message resource_step key_value_step no_key_value heard 1 (key_value (instance w)) no_resource (λ (x : KeyValue). resource_with (x ∷ [])) (numbered 1 (omega arith) (omega arith)) (λ at place. refl) short_a (says_pair (instance w) instance_fits short_a))
-    (says_message resource_step key_value_step no_key_value (heard_pair (service w)) 1 (key_value (service w)) (resource_with (heard ∷ [])) (λ (x : KeyValue). resource_with (heard ∷ x ∷ [])) (numbered 1 (omega arith) (omega arith)) (λ at place. refl) short_b (says_pair (service w) service_fits short_b))
+    says_then resource_step a b no_resource (resource_with (heard_pair (instance w) ∷ [])) (heard_resource w)
+    (says_attribute (instance w) instance_fits refl [] (short_block 1 (key_value (instance w)) (short_front a b short)))
+    (says_attribute (service w) service_fits few (heard_pair (instance w) ∷ []) (short_block 1 (key_value (service w)) (short_behind a b short)))
 
 -- ---- the whole
 
 abbrev pub heard_resource_metrics : Export → ResourceMetrics
-heard_resource_metrics e = record { resource = Some (heard_resource e.writer); scopes = map (heard_scope e.start e.time) (parts of_one_scope has_long_text e.points) }
+heard_resource_metrics e = record { resource = Some (heard_resource e.writer); scopes = map (heard_scope e.start e.time) (runs of_one_scope e.points) }
 
 abbrev pub heard_request : Export → Request
 heard_request e = record { resources = heard_resource_metrics e ∷ [] }
 
-pub request_heard : (e : Export) → IsNumber e.start → IsNumber e.time → IsPair (instance e.writer) → IsPair (service e.writer) → AllByRecursion (IsScopeRun e.start e.time) (parts of_one_scope has_long_text e.points) → IsShort (request e) → request_said (request e) ≡ Ok (heard_request e)
+pub request_heard : (e : Export) → IsNumber e.start → IsNumber e.time → IsPair (instance e.writer) → IsPair (service e.writer) → is_long e.writer.service ≡ false → AllByRecursion (IsScopeRun e.start e.time) (runs of_one_scope e.points) → IsShort (request e) → request_said (request e) ≡ Ok (heard_request e)
 unfolding request resource_metrics request_step resource_metrics_step
-request_heard e start_fits time_fits instance_fits service_fits all short =
+request_heard e start_fits time_fits instance_fits service_fits few all short =
     let bytes = resource_metrics e in
     let r = resource e.writer in
     let b = block 1 r in
@@ -318,5 +325,5 @@ request_heard e start_fits time_fits instance_fits service_fits all short =
     says_whole request_step (block 1 bytes) no_request (heard_request e) 0
     (says_message request_step resource_metrics_step no_resource_metrics (heard_resource_metrics e) 1 bytes no_request (λ (x : ResourceMetrics). record { resources = x ∷ [] }) (numbered 1 (omega arith) (omega arith)) (λ at place. refl) inner
     (says_then resource_metrics_step b ss no_resource_metrics (record { resource = Some (heard_resource e.writer); scopes = [] }) (heard_resource_metrics e)
-    (says_message resource_metrics_step resource_step no_resource (heard_resource e.writer) 1 r no_resource_metrics (λ (x : Resource). record { resource = Some x; scopes = [] }) (numbered 1 (omega arith) (omega arith)) (λ at place. refl) short_r (says_resource e.writer instance_fits service_fits short_r))
+    (says_message resource_metrics_step resource_step no_resource (heard_resource e.writer) 1 r no_resource_metrics (λ (x : Resource). record { resource = Some x; scopes = [] }) (numbered 1 (omega arith) (omega arith)) (λ at place. refl) short_r (says_resource e.writer instance_fits service_fits few short_r))
     (says_scopes e.start e.time start_fits time_fits (Some (heard_resource e.writer)) e.points all (short_behind b ss inner))))

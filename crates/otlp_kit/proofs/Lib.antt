@@ -8,13 +8,10 @@ pub mod Grouping
 pub mod Hearing
 pub mod HearingPoints
 pub mod HearingMetrics
-pub mod Holding
 pub mod Instances
 pub mod Onward
 pub mod Packed
 pub mod Parting
-pub mod Permuted
-pub mod Pieces
 pub mod Refused
 pub mod Rising
 pub mod Regained

@@ -1,21 +1,18 @@
 -- Attributes and points come back from what a request says of them.
 use Rattle.std.proofs.Common.{◌≡◌, ℕ, zero, suc, ◌+◌, ◌<◌, cond, Bool, true, false, List, [], ◌∷◌, ◌++◌, length, map, Option, Some, None, Result, Ok, Err, ℤ, refl, sym, ap, ◌∙◌, subst, append_assoc, append-nil, arith}
-use Rattle.std.specs.Prelude.{◌==◌, ◌&&◌, not, IsTrue}
-use Rattle.std.specs.Cmp.{nat_cmp_total}
-use Rattle.std.specs.Cmp.Lexicographic.{slice_cmp, lists_total}
+use Rattle.std.specs.Prelude.{◌==◌, ◌&&◌, ◌||◌, nat_lt, not, IsTrue}
+use Rattle.std.specs.Cmp.Lexicographic.{slice_cmp, texts_ties}
 use Rattle.std.specs.FinMap.Entries.{is_sorted, below_all}
 use Rattle.std.specs.Int.{w64}
-use Rattle.std.specs.List.{AllByRecursion, list_all, position_from}
-use Rattle.std.specs.Option.{unwrap_or}
-use Rattle.std.specs.Ordering.{is_eq, is_lt, nat_cmp, ordering_reverse}
+use Rattle.std.specs.List.{AllByRecursion, list_all}
+use Rattle.std.specs.Ordering.{is_eq, is_lt, nat_cmp}
 use Rattle.std.specs.declared.cmp.Ordering.{Ordering}
 use Rattle.std.specs.declared.cmp.Ordering.TheVariants.{Less, Equal, Greater}
 use Rattle.std.proofs.lemmas.Bool.Decides.{nat_tests}
-use Rattle.std.proofs.lemmas.Cmp.{eq_by_cmp_equiv}
 use Rattle.std.proofs.lemmas.Int.{to_z-of_z}
-use Rattle.std.proofs.lemmas.List.{length-append}
+use Rattle.std.proofs.lemmas.List.{length-append, length-map}
 use Rattle.attr_kit.proofs.Putting.{attributes_rising}
-use Rattle.attr_kit.specs.Attributes.{AreAttributes, has_text}
+use Rattle.attr_kit.specs.Attributes.{has_text}
 use Rattle.attr_kit.specs.Exact.{first_holds, second_holds}
 use Rattle.attr_kit.specs.Orders.{text_cmp}
 use Rattle.attr_kit.specs.Putting.{attributes_of}
@@ -28,15 +25,15 @@ use Rattle.point_kit.specs.declared.shape.Shape.TheVariants as shapes
 use Rattle.point_kit.specs.declared.stream.Stream.{Stream}
 use Rattle.otlp_kit.specs.Doubles.{double}
 use Rattle.otlp_kit.specs.Exact.{exact}
-use Rattle.otlp_kit.specs.Fields.{and_then}
-use Rattle.otlp_kit.specs.Reading.{refuse_when, or_zero, content_value, key_of, pair_of, attribute, is_twice, add_attribute, attributes, placed, number_placed, gauge_point, sum_point, whole, add_bound, bounds_of, range_of, buckets_of, named, histogram_payload, histogram_point}
+use Rattle.otlp_kit.specs.Fields.{and_then, refused}
+use Rattle.otlp_kit.specs.Reading.{refuse_when, or_zero, content_value, pair_of, attribute, is_twice, add_attribute, attributes, placed, number_placed, gauge_point, sum_point, whole, add_bound, bounds_of, range_of, buckets_of, named, histogram_payload, histogram_point}
 use Rattle.otlp_kit.specs.Refusals.{rises}
 use Rattle.otlp_kit.specs.Sent.{IsInteger, IsExact, IsExactRange}
-use Rattle.otlp_kit.proofs.Sendable.{IsHistogram}
+use Rattle.otlp_kit.proofs.Sendable.{AreFew, IsHistogram}
 use Rattle.otlp_kit.specs.Walks.{walk, walk_from}
 use Rattle.otlp_kit.specs.declared.placed.Placed.{Placed}
 use Rattle.otlp_kit.specs.declared.request_fault.RequestFault.{RequestFault}
-use Rattle.otlp_kit.specs.declared.request_fault.RequestFault.TheVariants as faults
+use Rattle.otlp_kit.specs.declared.request_fault.RequestReason.TheVariants as reasons
 use Rattle.otlp_kit.proofs.Exactly.{exact_back}
 use Rattle.otlp_kit.proofs.Hearing.{any_of, heard_pair, heard_number}
 use Rattle.otlp_kit.proofs.HearingPoints.{heard_histogram, least_of, greatest_of}
@@ -61,45 +58,17 @@ less Less h = refl
 less Equal h = cc
 less Greater h = cc
 
--- the place of the first text that passes
-passes_at : (t : List ℕ → Bool) (qs : List (List ℕ)) (k : List ℕ) (rest : List (List ℕ)) (i : ℕ) → AllByRecursion (λ q. t q ≡ false) qs → t k ≡ true → position_from t i (qs ++ k ∷ rest) ≡ Some (i + length qs)
-passes_at t [] k rest i none some =
-    let here : i ≡ i + 0 = omega arith in
-    ap (λ (b : Bool). cond b (Some i) (position_from t (i + 1) rest)) some ∙ ap (λ (n : ℕ). Some n) here
-passes_at t (q ∷ qs) k rest i none some =
-    let place : i + 1 + length qs ≡ i + suc (length qs) = omega arith in
-    ap (λ (b : Bool). cond b (Some i) (position_from t (i + 1) (qs ++ k ∷ rest))) none.0
-    ∙ passes_at t qs k rest (i + 1) none.1 some ∙ ap (λ (n : ℕ). Some n) place
-
 below_at : (k : List ℕ) (qs : List (List ℕ × AttrValue)) (p : List ℕ × AttrValue) (rs : List (List ℕ × AttrValue)) → below_all (slice_cmp nat_cmp) k (qs ++ p ∷ rs) ≡ true → text_cmp k p.0 ≡ Less
 below_at k [] p rs h = less (text_cmp k p.0) (first_holds _ _ h)
 below_at k (q ∷ qs) p rs h = below_at k qs p rs (second_holds (is_lt (text_cmp k q.0)) _ h)
 
 -- of keys that rise no earlier one is equal
-apart : (qs : List (List ℕ × AttrValue)) (p : List ℕ × AttrValue) (rs : List (List ℕ × AttrValue)) → is_sorted (slice_cmp nat_cmp) (qs ++ p ∷ rs) ≡ true → AllByRecursion (λ k. is_eq (text_cmp p.0 k) ≡ false) (map key_of (map heard_pair qs))
-apart [] p rs h = _
-apart (q ∷ qs) p rs h =
-    let below = below_at q.0 qs p rs (first_holds _ _ h) in
-    (ap is_eq ((lists_total nat_cmp_total).antisymm p.0 q.0 ∙ ap ordering_reverse below), apart qs p rs (second_holds (below_all (slice_cmp nat_cmp) q.0 (qs ++ p ∷ rs)) _ h))
-
-keys_in : (qs rs : List (List ℕ × AttrValue)) → map key_of (map heard_pair (qs ++ rs)) ≡ map key_of (map heard_pair qs) ++ map key_of (map heard_pair rs)
-keys_in [] rs = refl
-keys_in (q ∷ qs) rs = ap (λ (l : List (List ℕ)). q.0 ∷ l) (keys_in qs rs)
-
-many_keys : (qs : List (List ℕ × AttrValue)) → length (map key_of (map heard_pair qs)) ≡ length qs
-many_keys [] = refl
-many_keys (q ∷ qs) = ap (λ (n : ℕ). suc n) (many_keys qs)
-
 once : (qs : List (List ℕ × AttrValue)) (p : List ℕ × AttrValue) (rs : List (List ℕ × AttrValue)) → is_sorted (slice_cmp nat_cmp) (qs ++ p ∷ rs) ≡ true → is_twice (map heard_pair (qs ++ p ∷ rs)) (length qs) (heard_pair p) ≡ false
-once qs p rs h =
-    let t = λ (u : List ℕ). is_eq (text_cmp p.0 u) in
-    let many : 0 + length (map key_of (map heard_pair qs)) ≡ length qs = omega (arith, many_keys qs) in
-    let itself : t p.0 ≡ true = (eq_by_cmp_equiv (lists_total nat_cmp_total)).refl p.0 in
-    let found = passes_at t (map key_of (map heard_pair qs)) p.0 (map key_of (map heard_pair rs)) 0 (apart qs p rs h) itself in
-    ap (λ (ks : List (List ℕ)). not (unwrap_or (position_from t 0 ks) 0 == length qs)) (keys_in qs (p ∷ rs))
-    ∙ ap (λ (o : Option ℕ). not (unwrap_or o 0 == length qs)) found
-    ∙ ap (λ (n : ℕ). not (n == length qs)) many
-    ∙ ap not (equal_self (length qs))
+once [] p rs h = refl
+once (q ∷ qs) p rs h =
+    let below = below_at q.0 qs p rs (first_holds _ _ h) in
+    ap (λ (b : Bool). b || is_twice (map heard_pair (qs ++ p ∷ rs)) (length qs) (heard_pair p)) (texts_ties q.0 p.0 ∙ ap is_eq below)
+    ∙ once qs p rs (second_holds (below_all (slice_cmp nat_cmp) q.0 (qs ++ p ∷ rs)) _ h)
 
 value_back : (v : AttrValue) → content_value (Some (any_of v)) ≡ Some v
 value_back (values.Text t) = refl
@@ -109,7 +78,7 @@ value_back (values.Whole n) = refl
 attribute_back : (n : ℕ) (key : List ℕ) (v : AttrValue) → has_text key ≡ true → attribute n false (heard_pair (key, v)) ≡ Ok (key, v)
 attribute_back n [] v h = cc
 attribute_back n (b ∷ bs) v h =
-    ap (λ (t : Bool). cond t (Err (faults.EmptyKey n)) (pair_of n (b ∷ bs) (content_value (Some (any_of v))))) (not_empty (length bs))
+    ap (λ (t : Bool). cond t (Err (refused reasons.EmptyKey n)) (pair_of n (b ∷ bs) (content_value (Some (any_of v))))) (not_empty (length bs))
     ∙ ap (pair_of n (b ∷ bs)) (value_back v)
 
 abbrev pub Pairs : Type 0
@@ -129,11 +98,15 @@ walked n ps qs (p ∷ rs) e h named =
     ∙ walked n ps (qs ++ p ∷ []) rs all h (second_holds (has_text p.0) _ named)
     ∙ ap (λ (l : Pairs). Ok l) (append_assoc qs (p ∷ []) rs)
 
-pub attributes_back : (n : ℕ) (ps : Pairs) → AreAttributes ps → attributes n (map heard_pair ps) ≡ Ok ps
+pub attributes_back : (n : ℕ) (ps : Pairs) → AreFew ps → attributes n (map heard_pair ps) ≡ Ok ps
 unfolding attributes walk
-attributes_back n ps are =
+attributes_back n ps few =
+    let are = few.0 in
     let sorted = holds _ are.rising in
-    ap (λ (r : Result Pairs RequestFault). and_then r (λ (l : Pairs). Ok (attributes_of l))) (walked n ps [] ps refl sorted (holds _ are.named))
+    let later = λ (many : Bool). and_then (refuse_when many (refused reasons.TooManyAttributes n)) (λ (u : Unit {0}). and_then (walk_from (add_attribute n (map heard_pair ps)) 0 [] (map heard_pair ps)) (λ (l : Pairs). Ok (attributes_of l))) in
+    ap (λ (size : ℕ). later (nat_lt 128 size)) (length-map ps heard_pair)
+    ∙ ap later few.1
+    ∙ ap (λ (r : Result Pairs RequestFault). and_then r (λ (l : Pairs). Ok (attributes_of l))) (walked n ps [] ps refl sorted (holds _ are.named))
     ∙ ap (λ (l : Pairs). Ok l) (attributes_rising ps sorted)
 
 -- ---- points
@@ -148,23 +121,23 @@ point_with stream attrs payload = record { stream = stream; attrs = attrs; paylo
 abbrev pub placed_with : ℕ → ℕ → ExportPoint → Placed
 placed_with start time p = record { start = start; time = time; point = p }
 
-number_back : (n start time : ℕ) (s : Stream) (value : ℤ) (attrs : Pairs) (payload : Payload) → AreAttributes attrs → number_placed n s (heard_number start time value attrs) payload ≡ Ok (placed_with start time (point_with s attrs payload))
+number_back : (n start time : ℕ) (s : Stream) (value : ℤ) (attrs : Pairs) (payload : Payload) → AreFew attrs → number_placed n s (heard_number start time value attrs) payload ≡ Ok (placed_with start time (point_with s attrs payload))
 number_back n start time s value attrs payload are =
     ap (λ (r : Result Pairs RequestFault). and_then r (λ (l : Pairs). Ok (placed (given_number start) (given_number time) s l payload))) (attributes_back n attrs are)
     ∙ (λ i. Ok (placed_with (or_zero_given start i) (or_zero_given time i) (point_with s attrs payload)))
 
-pub gauge_back : (n start time : ℕ) (s : Stream) (value : ℤ) (attrs : Pairs) → IsInteger value → AreAttributes attrs → gauge_point n s (heard_number start time value attrs) ≡ Ok (placed_with start time (point_with s attrs (payloads.Gauge value)))
+pub gauge_back : (n start time : ℕ) (s : Stream) (value : ℤ) (attrs : Pairs) → IsInteger value → AreFew attrs → gauge_point n s (heard_number start time value attrs) ≡ Ok (placed_with start time (point_with s attrs (payloads.Gauge value)))
 unfolding gauge_point
 gauge_back n start time s value attrs fits are =
     ap (λ (z : ℤ). number_placed n s (heard_number start time value attrs) (payloads.Gauge z)) (to_z-of_z w64 value fits)
     ∙ number_back n start time s value attrs (payloads.Gauge value) are
 
-is_started : (n start : ℕ) → 0 < start → refuse_when (or_zero (given_number start) == 0) (faults.UnknownStart n) ≡ Ok _
+is_started : (n start : ℕ) → 0 < start → refuse_when (or_zero (given_number start) == 0) (refused reasons.UnknownStart n) ≡ Ok _
 is_started n start h =
-    ap (λ (k : ℕ). refuse_when (k == 0) (faults.UnknownStart n)) (or_zero_given start)
-    ∙ ap (λ (b : Bool). refuse_when b (faults.UnknownStart n)) (not_zero start h)
+    ap (λ (k : ℕ). refuse_when (k == 0) (refused reasons.UnknownStart n)) (or_zero_given start)
+    ∙ ap (λ (b : Bool). refuse_when b (refused reasons.UnknownStart n)) (not_zero start h)
 
-pub sum_back : (n start time : ℕ) (s : Stream) (value : ℤ) (attrs : Pairs) → 0 < start → IsInteger value → AreAttributes attrs → sum_point n s (heard_number start time value attrs) ≡ Ok (placed_with start time (point_with s attrs (payloads.Sum value)))
+pub sum_back : (n start time : ℕ) (s : Stream) (value : ℤ) (attrs : Pairs) → 0 < start → IsInteger value → AreFew attrs → sum_point n s (heard_number start time value attrs) ≡ Ok (placed_with start time (point_with s attrs (payloads.Sum value)))
 unfolding sum_point
 sum_back n start time s value attrs some fits are =
     let said = heard_number start time value attrs in
@@ -182,8 +155,8 @@ bounds_walked n i cs (b ∷ bs) all =
 bounds_back : (n : ℕ) (bs : List ℤ) → AllByRecursion IsExact bs → rises bs ≡ true → bounds_of n (map double bs) ≡ Ok bs
 unfolding walk
 bounds_back n bs all up =
-    ap (λ (r : Result (List ℤ) RequestFault). and_then r (λ (l : List ℤ). and_then (refuse_when (not (rises l)) (faults.BadBounds n)) (λ (u : Unit {0}). Ok l))) (bounds_walked n 0 [] bs all)
-    ∙ ap (λ (b : Bool). and_then (refuse_when (not b) (faults.BadBounds n)) (λ (u : Unit {0}). Ok bs)) up
+    ap (λ (r : Result (List ℤ) RequestFault). and_then r (λ (l : List ℤ). and_then (refuse_when (not (rises l)) (refused reasons.BadBounds n)) (λ (u : Unit {0}). Ok l))) (bounds_walked n 0 [] bs all)
+    ∙ ap (λ (b : Bool). and_then (refuse_when (not b) (refused reasons.BadBounds n)) (λ (u : Unit {0}). Ok bs)) up
 
 range_back : (n : ℕ) (range : Option (ℤ × ℤ)) → IsExactRange range → range_of n (least_of range) (greatest_of range) ≡ Ok range
 range_back n None fits = refl
@@ -204,7 +177,7 @@ payload_back n start time attrs bounds count sum buckets range fits up some =
     ∙ ap (λ (x : Result (Option (ℤ × ℤ)) RequestFault). and_then x (λ (r : Option (ℤ × ℤ)). Ok (bounds, payloads.Hist (or_zero said.count) sum (buckets_of said) r))) (range_back n range fits.of_range)
     ∙ (λ i. Ok (bounds, payloads.Hist (or_zero_given count i) sum (buckets_back start time attrs bounds count sum buckets range some i) range))
 
-pub histogram_back : (n start time : ℕ) (scope name unit : List ℕ) (attrs : Pairs) (bounds : List ℤ) (count : ℕ) (sum : ℤ) (buckets : List ℕ) (range : Option (ℤ × ℤ)) → 0 < start → AreAttributes attrs → IsHistogram bounds count sum buckets range → rises bounds ≡ true → 0 < length buckets → histogram_point n scope name unit (heard_histogram start time attrs bounds count sum buckets range) ≡ Ok (placed_with start time (point_with (named scope name unit (shapes.Histogram bounds)) attrs (payloads.Hist count sum buckets range)))
+pub histogram_back : (n start time : ℕ) (scope name unit : List ℕ) (attrs : Pairs) (bounds : List ℤ) (count : ℕ) (sum : ℤ) (buckets : List ℕ) (range : Option (ℤ × ℤ)) → 0 < start → AreFew attrs → IsHistogram bounds count sum buckets range → rises bounds ≡ true → 0 < length buckets → histogram_point n scope name unit (heard_histogram start time attrs bounds count sum buckets range) ≡ Ok (placed_with start time (point_with (named scope name unit (shapes.Histogram bounds)) attrs (payloads.Hist count sum buckets range)))
 unfolding histogram_point
 histogram_back n start time scope name unit attrs bounds count sum buckets range started are fits up some =
     let said = heard_histogram start time attrs bounds count sum buckets range in

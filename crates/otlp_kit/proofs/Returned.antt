@@ -1,7 +1,7 @@
 -- An export comes back from its request.
 use Rattle.std.proofs.Common.{◌≡◌, ℕ, zero, suc, ◌+◌, ◌<◌, ◌≤◌, cond, Bool, true, false, List, [], ◌∷◌, ◌++◌, length, map, fold, All, Option, Some, None, Result, Ok, ℤ, inl, refl, sym, ap, ◌∙◌, subst, append_assoc, append-nil, arith}
 use Rattle.std.specs.Prelude.{◌&&◌, ◌==◌, nat_lt, not, codes, slice_get, slice_index}
-use Rattle.std.specs.List.{AllByRecursion, flat_map, list_all, position_from}
+use Rattle.std.specs.List.{AllByRecursion, flat_map, list_all, list_any, position_from}
 use Rattle.std.specs.Option.{option_map, option_or}
 use Rattle.std.specs.Str.{IsUtf8}
 use Rattle.std.proofs.lemmas.Bool.Decides.{nat_tests}
@@ -10,7 +10,6 @@ use Rattle.std.proofs.lemmas.List.{length-map, map-append}
 use Rattle.std.proofs.lemmas.List.Elements.{All-tail}
 use Rattle.std.proofs.lemmas.Option.{slice_get-map}
 use Rattle.std.proofs.lemmas.Str.{IsUtf8-from_ascii}
-use Rattle.attr_kit.specs.Attributes.{AreAttributes}
 use Rattle.attr_kit.specs.Exact.{exact_texts, first_holds, second_holds}
 use Rattle.attr_kit.specs.Refusing.{when}
 use Rattle.point_kit.proofs.Sound.{sound_points}
@@ -30,14 +29,15 @@ use Rattle.uuid.specs.Text.{hyphenated_text, lower}
 use Rattle.uuid.proofs.RoundTrips.{parses_hyphenated_text}
 use Rattle.uuid.proofs.TextLemmas.{hyphenated_ascii}
 use Rattle.otlp_kit.specs.Doubles.{double}
-use Rattle.otlp_kit.specs.Fields.{and_then}
-use Rattle.otlp_kit.specs.Reading.{text_or_empty, or_zero, gauge_point, sum_point, histogram_point, named, with_point, add_gauge_point, add_sum_point, add_histogram_point, stream_of, add_data, behind_metric, add_metric, add_metrics, held, few_points, points_in, times_held, scope_name, is_other, differs, behind_scope, add_scope, text_under, or_refuse, writer_of, group_of, with_member, add_member, Said, said_of, built, add_export, groups_of, exports_of, Progress, add_resource, nothing_read, exports_in, exports_read}
+use Rattle.otlp_kit.specs.Fields.{and_then, refused}
+use Rattle.otlp_kit.specs.Reading.{text_or_empty, or_zero, gauge_point, sum_point, histogram_point, named, with_point, add_gauge_point, add_sum_point, add_histogram_point, stream_of, add_data, behind_metric, add_metric, add_metrics, scope_name, is_other, differs, behind_scope, add_scope, text_under, or_refuse, writer_of, group_of, with_member, add_member, Said, said_of, built, add_export, groups_of, exports_of, Progress, add_resource, nothing_read, exports_in, exports_read}
+use Rattle.otlp_kit.specs.Limits.{is_long}
 use Rattle.otlp_kit.specs.Reading as readings
-use Rattle.otlp_kit.specs.Refusals.{rises, has_bad_bounds, most_bytes, bounds_fault, length_fault, otlp_fault}
-use Rattle.otlp_kit.specs.Request.{instance, service, of_one_stream, is_long_stream, has_long_text, of_one_scope, request}
-use Rattle.otlp_kit.specs.Runs.{runs, parts}
+use Rattle.otlp_kit.specs.Refusals.{rises, has_bad_bounds, has_long_text, has_many_attributes, most_bytes, bounds_fault, text_fault, attributes_fault, early_fault, length_fault, otlp_fault}
+use Rattle.otlp_kit.specs.Request.{instance, service, of_one_stream, of_one_scope, request}
+use Rattle.otlp_kit.specs.Runs.{runs}
 use Rattle.otlp_kit.specs.Sent.{IsWriter, IsExport, IsSaid}
-use Rattle.otlp_kit.proofs.Sendable.{IsPayload, IsStarted, IsSent, all_sent}
+use Rattle.otlp_kit.proofs.Sendable.{AreFew, IsPayload, IsStarted, IsSent, none_of, all_sent}
 use Rattle.otlp_kit.specs.Walks.{walk, walk_from, first_place}
 use Rattle.otlp_kit.specs.declared.fault.OtlpFault.{OtlpFault}
 use Rattle.otlp_kit.specs.declared.fault.OtlpFault.TheVariants as otlp
@@ -45,15 +45,13 @@ use Rattle.otlp_kit.specs.declared.group.Group.{Group}
 use Rattle.otlp_kit.specs.declared.placed.Placed.{Placed}
 use Rattle.otlp_kit.specs.declared.reading.Reading.{Reading}
 use Rattle.otlp_kit.specs.declared.request_fault.RequestFault.{RequestFault}
-use Rattle.otlp_kit.specs.declared.request_fault.RequestFault.TheVariants as faults
+use Rattle.otlp_kit.specs.declared.request_fault.RequestReason.TheVariants as reasons
 use Rattle.otlp_kit.specs.declared.resource.Request.{Request}
 use Rattle.otlp_kit.proofs.Hearing.{heard_pair, heard_number}
 use Rattle.otlp_kit.proofs.HearingMetrics.{value_in, heard_number_of, heard_payload, heard_histogram_of, given_monotonic, heard_data, heard_fields, heard_metric, heard_scope, heard_request, IsScopeRun, request_heard}
-use Rattle.otlp_kit.proofs.Holding.{taken, held_once, few_are_taken, long_stream, long_streams, few_of_each, scope_is_held, of_one_bounds}
 use Rattle.otlp_kit.proofs.Parting.{IsRun, all_of, runs_hold, rejoined}
-use Rattle.otlp_kit.proofs.Pieces.{IsFew, parts_hold, parts_are_few, parts_joined}
 use Rattle.otlp_kit.proofs.Regained.{Pairs, equal_self, point_with, placed_with, gauge_back, sum_back, histogram_back}
-use Rattle.otlp_kit.proofs.Saying.{IsShort, both, given_text}
+use Rattle.otlp_kit.proofs.Saying.{IsShort, given_text}
 
 -- a point that comes back
 pub record IsBack (start : ℕ) (p : ExportPoint) : Type 0 where
@@ -76,7 +74,7 @@ singles {A = A} (x ∷ xs) = ap (λ (l : List A). x ∷ l) (singles xs)
 module _ (start time : ℕ) where
   -- ---- one point
 
-  gauge_of : (n : ℕ) (s st : Stream) (attrs : Pairs) (payload : Payload) → st ≡ s → s.shape ≡ shapes.Gauge → IsPayload st.shape payload → AreAttributes attrs → gauge_point n s (heard_number start time (value_in payload) attrs) ≡ Ok (placed_with start time (point_with st attrs payload))
+  gauge_of : (n : ℕ) (s st : Stream) (attrs : Pairs) (payload : Payload) → st ≡ s → s.shape ≡ shapes.Gauge → IsPayload st.shape payload → AreFew attrs → gauge_point n s (heard_number start time (value_in payload) attrs) ≡ Ok (placed_with start time (point_with st attrs payload))
   gauge_of n s st attrs (payloads.Gauge v) e k fits are =
       let kind : st.shape ≡ shapes.Gauge = ap (λ (x : Stream). x.shape) e ∙ k in
       gauge_back n start time s v attrs (subst (λ (h : Shape). IsPayload h (payloads.Gauge v)) kind fits) are
@@ -84,7 +82,7 @@ module _ (start time : ℕ) where
   gauge_of n s st attrs (payloads.Sum v) e k fits are = absurd (subst (λ (h : Shape). IsPayload h (payloads.Sum v)) (ap (λ (x : Stream). x.shape) e ∙ k) fits)
   gauge_of n s st attrs (payloads.Hist c t b r) e k fits are = absurd (subst (λ (h : Shape). IsPayload h (payloads.Hist c t b r)) (ap (λ (x : Stream). x.shape) e ∙ k) fits)
 
-  sum_of : (n : ℕ) (m : Bool) (s st : Stream) (attrs : Pairs) (payload : Payload) → st ≡ s → s.shape ≡ shapes.Sum m → IsPayload st.shape payload → IsStarted start st.shape → AreAttributes attrs → sum_point n s (heard_number start time (value_in payload) attrs) ≡ Ok (placed_with start time (point_with st attrs payload))
+  sum_of : (n : ℕ) (m : Bool) (s st : Stream) (attrs : Pairs) (payload : Payload) → st ≡ s → s.shape ≡ shapes.Sum m → IsPayload st.shape payload → IsStarted start st.shape → AreFew attrs → sum_point n s (heard_number start time (value_in payload) attrs) ≡ Ok (placed_with start time (point_with st attrs payload))
   sum_of n m s st attrs (payloads.Sum v) e k fits starts are =
       let kind : st.shape ≡ shapes.Sum m = ap (λ (x : Stream). x.shape) e ∙ k in
       sum_back n start time s v attrs (subst (IsStarted start) kind starts) (subst (λ (h : Shape). IsPayload h (payloads.Sum v)) kind fits) are
@@ -95,7 +93,7 @@ module _ (start time : ℕ) where
   some_buckets : (b : List ℤ) (c : ℕ) (t : ℤ) (l : List ℕ) (r : Option (ℤ × ℤ)) → IsSoundHistogram b c t l r → 0 < length l
   some_buckets b c t l r h = let size = h.buckets in omega (arith, size)
 
-  histogram_by : (n : ℕ) (b : List ℤ) (s st : Stream) (attrs : Pairs) (payload : Payload) → st ≡ s → s.shape ≡ shapes.Histogram b → IsPayload (shapes.Histogram b) payload → 0 < start → AreAttributes attrs → rises b ≡ true → IsSound (shapes.Histogram b) payload → histogram_point n s.scope s.name s.unit (heard_payload start time attrs b payload) ≡ Ok (placed_with start time (point_with st attrs payload))
+  histogram_by : (n : ℕ) (b : List ℤ) (s st : Stream) (attrs : Pairs) (payload : Payload) → st ≡ s → s.shape ≡ shapes.Histogram b → IsPayload (shapes.Histogram b) payload → 0 < start → AreFew attrs → rises b ≡ true → IsSound (shapes.Histogram b) payload → histogram_point n s.scope s.name s.unit (heard_payload start time attrs b payload) ≡ Ok (placed_with start time (point_with st attrs payload))
   histogram_by n b s st attrs (payloads.Hist c t l r) e k fits starts are up sound =
       histogram_back n start time s.scope s.name s.unit attrs b c t l r starts are fits up (some_buckets b c t l r sound)
       ∙ ap (λ (x : Stream). Ok (placed_with start time (point_with x attrs (payloads.Hist c t l r)))) (ap (λ (h : Shape). named s.scope s.name s.unit h) (sym k) ∙ sym e)
@@ -111,20 +109,6 @@ module _ (start time : ℕ) where
       let sent = h.0.sent in
       ap (λ (x : Shape). histogram_point n s.scope s.name s.unit (heard_payload start time p.attrs (bounds_of x) p.payload)) kind
       ∙ histogram_by n b s p.stream p.attrs p.payload h.1 k (subst (λ (x : Shape). IsPayload x p.payload) kind sent.payload) (subst (IsStarted start) kind sent.started) sent.attrs.1 (subst (λ (x : Shape). rises (bounds_of x) ≡ true) kind h.0.rising) (subst (λ (x : Shape). IsSound x p.payload) kind h.0.sound)
-
-  bounds_by : (b : List ℤ) (attrs : Pairs) (payload : Payload) → IsPayload (shapes.Histogram b) payload → (heard_payload start time attrs b payload).bounds ≡ map double b
-  bounds_by b attrs (payloads.Hist c t l r) fits = refl
-  bounds_by b attrs (payloads.Sum v) fits = absurd fits
-  bounds_by b attrs (payloads.Gauge v) fits = absurd fits
-
-  bounds_heard : (b : List ℤ) (s : Stream) (ps : List ExportPoint) → s.shape ≡ shapes.Histogram b → AllByRecursion (OfStreamBack s) ps → AllByRecursion (λ p. p.bounds ≡ map double b) (map (heard_histogram_of start time) ps)
-  bounds_heard b s [] k all = _
-  bounds_heard b s (p ∷ ps) k all =
-      let kind : p.stream.shape ≡ shapes.Histogram b = ap (λ (x : Stream). x.shape) all.0.1 ∙ k in (
-        ap (λ (x : Shape). (heard_payload start time p.attrs (bounds_of x) p.payload).bounds) kind
-            ∙ bounds_by b p.attrs p.payload (subst (λ (x : Shape). IsPayload x p.payload) kind all.0.0.sent.payload),
-        bounds_heard b s ps k all.1,
-      )
 
   -- ---- points, one after another
 
@@ -159,38 +143,21 @@ module _ (start time : ℕ) where
   stream_back : (s : Stream) (h : Shape) → s.shape ≡ h → named s.scope (text_or_empty (given_text s.name)) (text_or_empty (given_text s.unit)) h ≡ s
   stream_back s h e = λ i. named s.scope (text_back s.name i) (text_back s.unit i) (sym e i)
 
-  -- a stream with a long text has few points
-  abbrev HasFew : Stream → ℕ → Type 0
-  HasFew s n = is_long_stream s ≡ true → n ≤ 64
-
-  few_back : (s : Stream) (n m : ℕ) → m ≡ n → HasFew s n → few_points s.scope (text_or_empty (given_text s.name)) (text_or_empty (given_text s.unit)) m ≡ taken
-  few_back s n m e few = (λ i. few_points s.scope (text_back s.name i) (text_back s.unit i) (e i)) ∙ few_are_taken s n few
-
-  few_gain : (r : Reading) (ps : List ExportPoint) (few : Result (Unit {0}) RequestFault) (then : Result Reading RequestFault) → few ≡ taken → Gains then r ps → Gains (and_then few (λ u. then)) r ps
-  few_gain r ps few then e g = subst (λ (x : Result (Unit {0}) RequestFault). Gains (and_then x (λ (u : Unit {0}). then)) r ps) (sym e) g
-
-  data_gains : (s : Stream) (h : Shape) (r : Reading) (ps : List ExportPoint) → s.shape ≡ h → HasFew s (length ps) → AllByRecursion (OfStreamBack s) ps → Gains (add_data s.scope (heard_fields start time s ps) r (Some (heard_data start time h ps))) r ps
+  data_gains : (s : Stream) (h : Shape) (r : Reading) (ps : List ExportPoint) → s.shape ≡ h → AllByRecursion (OfStreamBack s) ps → Gains (add_data s.scope (heard_fields start time s ps) r (Some (heard_data start time h ps))) r ps
   unfolding walk
-  data_gains s shapes.Gauge r ps e few all =
-      few_gain r ps (few_points s.scope (text_or_empty (given_text s.name)) (text_or_empty (given_text s.unit)) (length (map (heard_number_of start time) ps))) _ (few_back s (length ps) _ (length-map ps (heard_number_of start time)) few)
-      (subst (λ (x : Stream). Gains (walk_from (add_gauge_point x) 0 r (map (heard_number_of start time) ps)) r ps) (sym (stream_back s shapes.Gauge e))
+  data_gains s shapes.Gauge r ps e all =
+      subst (λ (x : Stream). Gains (walk_from (add_gauge_point x) 0 r (map (heard_number_of start time) ps)) r ps) (sym (stream_back s shapes.Gauge e))
       (subst (λ (l : List ExportPoint). Gains (walk_from (add_gauge_point s) 0 r (map (heard_number_of start time) ps)) r l) (singles ps)
-      (walk_gains (OfStreamBack s) (add_gauge_point s) (heard_number_of start time) (λ p. p ∷ []) (λ i r p h. one_gains r p (gauge_point r.points s (heard_number_of start time p)) (gauge_of r.points s p.stream p.attrs p.payload h.1 e h.0.sent.payload h.0.sent.attrs.1)) 0 r ps all)))
-  data_gains s (shapes.Sum m) r ps e few all =
-      few_gain r ps (few_points s.scope (text_or_empty (given_text s.name)) (text_or_empty (given_text s.unit)) (length (map (heard_number_of start time) ps))) _ (few_back s (length ps) _ (length-map ps (heard_number_of start time)) few)
-      (subst (λ (x : Stream). Gains (walk_from (add_sum_point x) 0 r (map (heard_number_of start time) ps)) r ps) (sym (ap (λ (b : Bool). named s.scope (text_or_empty (given_text s.name)) (text_or_empty (given_text s.unit)) (shapes.Sum b)) (monotonic_back m) ∙ stream_back s (shapes.Sum m) e))
+      (walk_gains (OfStreamBack s) (add_gauge_point s) (heard_number_of start time) (λ p. p ∷ []) (λ i r p h. one_gains r p (gauge_point r.points s (heard_number_of start time p)) (gauge_of r.points s p.stream p.attrs p.payload h.1 e h.0.sent.payload h.0.sent.attrs.1)) 0 r ps all))
+  data_gains s (shapes.Sum m) r ps e all =
+      subst (λ (x : Stream). Gains (walk_from (add_sum_point x) 0 r (map (heard_number_of start time) ps)) r ps) (sym (ap (λ (b : Bool). named s.scope (text_or_empty (given_text s.name)) (text_or_empty (given_text s.unit)) (shapes.Sum b)) (monotonic_back m) ∙ stream_back s (shapes.Sum m) e))
       (subst (λ (l : List ExportPoint). Gains (walk_from (add_sum_point s) 0 r (map (heard_number_of start time) ps)) r l) (singles ps)
-      (walk_gains (OfStreamBack s) (add_sum_point s) (heard_number_of start time) (λ p. p ∷ []) (λ i r p h. one_gains r p (sum_point r.points s (heard_number_of start time p)) (sum_of r.points m s p.stream p.attrs p.payload h.1 e h.0.sent.payload h.0.sent.started h.0.sent.attrs.1)) 0 r ps all)))
-  data_gains s (shapes.Histogram b) r ps e few all =
-      let name = text_or_empty (given_text s.name) in
-      let unit = text_or_empty (given_text s.unit) in
-      let heard_points = map (heard_histogram_of start time) ps in
-      few_gain r ps (few_points s.scope name unit (length heard_points)) _ (few_back s (length ps) _ (length-map ps (heard_histogram_of start time)) few)
-      (subst (λ (x : Result (Unit {0}) RequestFault). Gains (and_then x (λ (u : Unit {0}). walk_from (add_histogram_point s.scope name unit) 0 r heard_points)) r ps) (sym (of_one_bounds s.scope name unit (map double b) heard_points (bounds_heard b s ps e all)))
-      (subst (λ (x : List ℕ). Gains (walk_from (add_histogram_point s.scope x (text_or_empty (given_text s.unit))) 0 r (map (heard_histogram_of start time) ps)) r ps) (sym (text_back s.name))
+      (walk_gains (OfStreamBack s) (add_sum_point s) (heard_number_of start time) (λ p. p ∷ []) (λ i r p h. one_gains r p (sum_point r.points s (heard_number_of start time p)) (sum_of r.points m s p.stream p.attrs p.payload h.1 e h.0.sent.payload h.0.sent.started h.0.sent.attrs.1)) 0 r ps all))
+  data_gains s (shapes.Histogram b) r ps e all =
+      subst (λ (x : List ℕ). Gains (walk_from (add_histogram_point s.scope x (text_or_empty (given_text s.unit))) 0 r (map (heard_histogram_of start time) ps)) r ps) (sym (text_back s.name))
       (subst (λ (x : List ℕ). Gains (walk_from (add_histogram_point s.scope s.name x) 0 r (map (heard_histogram_of start time) ps)) r ps) (sym (text_back s.unit))
       (subst (λ (l : List ExportPoint). Gains (walk_from (add_histogram_point s.scope s.name s.unit) 0 r (map (heard_histogram_of start time) ps)) r l) (singles ps)
-      (walk_gains (OfStreamBack s) (add_histogram_point s.scope s.name s.unit) (heard_histogram_of start time) (λ p. p ∷ []) (λ i r p h. one_gains r p (histogram_point r.points s.scope s.name s.unit (heard_histogram_of start time p)) (histogram_of r.points b s p h e)) 0 r ps all)))))
+      (walk_gains (OfStreamBack s) (add_histogram_point s.scope s.name s.unit) (heard_histogram_of start time) (λ p. p ∷ []) (λ i r p h. one_gains r p (histogram_point r.points s.scope s.name s.unit (heard_histogram_of start time p)) (histogram_of r.points b s p h e)) 0 r ps all)))
 
   -- ---- metrics of a scope
 
@@ -198,32 +165,21 @@ module _ (start time : ℕ) where
   InScope name p = IsBack start p × (p.stream.scope ≡ name)
 
   abbrev IsMetricRun : List ℕ → List ExportPoint → Type 0
-  IsMetricRun name run = IsRun (InScope name) (λ p. p.stream) run × IsFew has_long_text run
+  IsMetricRun name run = IsRun (InScope name) (λ p. p.stream) run
 
   metric_gains : (name : List ℕ) (i : ℕ) (r : Reading) (run : List ExportPoint) → IsMetricRun name run → Gains (add_metric name i r (heard_metric start time run)) r run
   unfolding add_metric
-  metric_gains name i r [] h = absurd h.0
+  metric_gains name i r [] h = absurd h
   metric_gains name i r (p ∷ ps) h =
       let s = p.stream in
       let m = heard_fields start time s (p ∷ ps) in
-      let g = data_gains s s.shape r (p ∷ ps) refl h.1 (all_of (λ q. InScope name q × (q.stream ≡ s)) (OfStreamBack s) (λ q x. (x.0.0, x.1)) (p ∷ ps) h.0) in
+      let g = data_gains s s.shape r (p ∷ ps) refl (all_of (λ q. InScope name q × (q.stream ≡ s)) (OfStreamBack s) (λ q x. (x.0.0, x.1)) (p ∷ ps) h) in
       record {
         reading = behind_metric g.reading;
-        so = ap (λ (n : List ℕ). and_then (add_data n m r m.kind) (λ (t : Reading). Ok (behind_metric t))) (sym h.0.0.0.1)
+        so = ap (λ (n : List ℕ). and_then (add_data n m r m.kind) (λ (t : Reading). Ok (behind_metric t))) (sym h.0.0.1)
             ∙ ap (λ (x : Result Reading RequestFault). and_then x (λ (t : Reading). Ok (behind_metric t))) g.so;
         placed_are = g.placed_are;
       }
-
-  points_heard : (h : Shape) (ps : List ExportPoint) → points_in (Some (heard_data start time h ps)) ≡ length ps
-  points_heard shapes.Gauge ps = length-map ps (heard_number_of start time)
-  points_heard (shapes.Sum m) ps = length-map ps (heard_number_of start time)
-  points_heard (shapes.Histogram b) ps = length-map ps (heard_histogram_of start time)
-
-  times_heard : (p : ExportPoint) (ps : List ExportPoint) → times_held (heard_metric start time (p ∷ ps)) ≡ length (p ∷ ps)
-  times_heard p ps = ap (λ (n : ℕ). cond (n == 0) 1 n) (points_heard p.stream.shape (p ∷ ps)) ∙ once (length (p ∷ ps)) (omega arith)
-    where
-      once : (n : ℕ) → 0 < n → cond (n == 0) 1 n ≡ n
-      once n some = grind (arith, nat_tests)
 
   -- ---- scopes of a resource
 
@@ -242,42 +198,32 @@ module _ (start time : ℕ) where
       ap (differs s) (slice_get-map (heard_scope start time) rs place) ∙ alike run (slice_get rs place)
 
   abbrev IsRunBack : List ExportPoint → Type 0
-  IsRunBack run = IsRun (IsBack start) (λ p. p.stream.scope) run × (IsRun (IsBack start) (λ p. long_stream p.stream) run × IsFew has_long_text run)
+  IsRunBack run = IsRun (IsBack start) (λ p. p.stream.scope) run
 
   scope_gains : (rs : List (List ExportPoint)) (i : ℕ) (r : Reading) (run : List ExportPoint) → IsRunBack run → Gains (add_scope (map (heard_scope start time) rs) i r (heard_scope start time run)) r run
-  unfolding add_scope add_metrics walk
-  scope_gains rs i r [] h = absurd h.0
+  unfolding add_scope walk
+  scope_gains rs i r [] h = absurd h
   scope_gains rs i r (p ∷ ps) h =
       let name = p.stream.scope in
       let ms = runs of_one_stream (p ∷ ps) in
-      let alike = all_of (λ q. IsBack start q × (long_stream q.stream ≡ long_stream p.stream)) (λ q. long_stream q.stream ≡ long_stream p.stream) (λ q x. x.1) ps h.1.0.1 in
       let g = subst (λ (l : List ExportPoint). Gains (walk_from (add_metric name) 0 r (map (heard_metric start time) ms)) r l) (rejoined of_one_stream (p ∷ ps))
       (walk_gains (IsMetricRun name) (add_metric name) (heard_metric start time) (λ l. l) (metric_gains name) 0 r ms
-      (both (IsRun (InScope name) (λ q. q.stream)) (IsFew has_long_text) ms
-      (runs_hold (InScope name) (λ q. q.stream) of_one_stream (λ x y e. exact_streams x.stream y.stream e) (p ∷ ps) h.0)
-      (few_of_each p ps alike h.1.1))) in
-      let few = scope_is_held (heard_metric start time) times_heard p ps alike h.1.1 in
+      (runs_hold (InScope name) (λ q. q.stream) of_one_stream (λ x y e. exact_streams x.stream y.stream e) (p ∷ ps) h)) in
       record {
         reading = behind_scope g.reading;
-        so = ap (λ (b : Bool). and_then (readings.refuse_when b (faults.ScopeTwice r.scopes)) (λ (u : Unit {0}). and_then (add_metrics (text_or_empty (given_text name)) r (map (heard_metric start time) ms)) (λ (t : Reading). Ok (behind_scope t)))) (not_other rs (p ∷ ps))
+        so = ap (λ (b : Bool). and_then (readings.refuse_when b (refused reasons.ScopeTwice r.scopes)) (λ (u : Unit {0}). and_then (add_metrics (text_or_empty (given_text name)) r (map (heard_metric start time) ms)) (λ (t : Reading). Ok (behind_scope t)))) (not_other rs (p ∷ ps))
             ∙ ap (λ (n : List ℕ). and_then (add_metrics n r (map (heard_metric start time) ms)) (λ (t : Reading). Ok (behind_scope t))) (text_back name)
-            ∙ ap (λ (x : Result (Unit {0}) RequestFault). and_then (and_then x (λ (u : Unit {0}). walk_from (add_metric name) 0 r (map (heard_metric start time) ms))) (λ (t : Reading). Ok (behind_scope t))) few
             ∙ ap (λ (x : Result Reading RequestFault). and_then x (λ (t : Reading). Ok (behind_scope t))) g.so;
         placed_are = g.placed_are;
       }
 
-  scopes_gain : (r : Reading) (ps : List ExportPoint) → AllByRecursion (IsBack start) ps → Gains (walk (add_scope (map (heard_scope start time) (parts of_one_scope has_long_text ps))) r (map (heard_scope start time) (parts of_one_scope has_long_text ps))) r ps
+  scopes_gain : (r : Reading) (ps : List ExportPoint) → AllByRecursion (IsBack start) ps → Gains (walk (add_scope (map (heard_scope start time) (runs of_one_scope ps))) r (map (heard_scope start time) (runs of_one_scope ps))) r ps
   unfolding walk
   scopes_gain r ps all =
-      let rs = parts of_one_scope has_long_text ps in
-      subst (λ (l : List ExportPoint). Gains (walk_from (add_scope (map (heard_scope start time) rs)) 0 r (map (heard_scope start time) rs)) r l) (parts_joined has_long_text of_one_scope ps)
+      let rs = runs of_one_scope ps in
+      subst (λ (l : List ExportPoint). Gains (walk_from (add_scope (map (heard_scope start time) rs)) 0 r (map (heard_scope start time) rs)) r l) (rejoined of_one_scope ps)
       (walk_gains IsRunBack (add_scope (map (heard_scope start time) rs)) (heard_scope start time) (λ l. l) (scope_gains rs) 0 r rs
-      (both (IsRun (IsBack start) (λ p. p.stream.scope)) (λ run. IsRun (IsBack start) (λ p. long_stream p.stream) run × IsFew has_long_text run) rs
-      (parts_hold (IsBack start) (λ p. p.stream.scope) has_long_text of_one_scope ps
-      (runs_hold (IsBack start) (λ p. p.stream.scope) of_one_scope (λ x y e. exact_texts x.stream.scope y.stream.scope (first_holds _ _ e)) ps all))
-      (both (IsRun (IsBack start) (λ p. long_stream p.stream)) (IsFew has_long_text) rs
-      (parts_hold (IsBack start) (λ p. long_stream p.stream) has_long_text of_one_scope ps (runs_hold (IsBack start) (λ p. long_stream p.stream) of_one_scope long_streams ps all))
-      (parts_are_few has_long_text of_one_scope ps))))
+      (runs_hold (IsBack start) (λ p. p.stream.scope) of_one_scope (λ x y e. exact_texts x.stream.scope y.stream.scope e) ps all))
 
   -- ---- the group of the window
 
@@ -306,7 +252,7 @@ instance_back w = refl
 writer_back : (n : ℕ) (w : WriterId) → IsWriter w → writer_of n (heard_pair (instance w) ∷ heard_pair (service w) ∷ []) ≡ Ok w
 unfolding writer_of
 writer_back n w is =
-    ap (λ (o : Option (List ℕ)). and_then (or_refuse o (faults.NotUuid n)) (λ (x : List ℕ). Ok (record { service = w.service; instance = x }))) (sym (parses_hyphenated_text lower w.instance (inl refl) is.sixteen is.bytes))
+    ap (λ (o : Option (List ℕ)). and_then (or_refuse o (refused reasons.NotUuid n)) (λ (x : List ℕ). Ok (record { service = w.service; instance = x }))) (sym (parses_hyphenated_text lower w.instance (inl refl) is.sixteen is.bytes))
 
 -- ---- what the hypotheses say of each point
 
@@ -317,6 +263,10 @@ none_pass t i (x ∷ xs) e = by (t x) refl (λ q. none_pass t (i + 1) xs q) e
     by : (b : Bool) → t x ≡ b → (position_from t (i + 1) xs ≡ None → AllByRecursion (λ y. t y ≡ false) xs) → cond b (Some i) (position_from t (i + 1) xs) ≡ None → (t x ≡ false) × AllByRecursion (λ y. t y ≡ false) xs
     by true p later q = cc
     by false p later q = (p, later q)
+
+none_are : {A : Type 0} (t : A → Bool) (xs : List A) → list_any t xs ≡ false → AllByRecursion (λ x. t x ≡ false) xs
+none_are t [] e = _
+none_are t (x ∷ xs) e = let both = none_of (t x) (list_any t xs) e in (both.0, none_are t xs both.1)
 
 each_of : {A : Type 0} (P : A → Type 0) (xs : List A) → All P xs → AllByRecursion P xs
 each_of P [] h = _
@@ -349,16 +299,32 @@ not_when false f e = refl
 not_more : (a b : ℕ) → nat_lt a b ≡ false → b ≤ a
 not_more a b e = grind (arith, nat_tests)
 
-no_bad_bounds : (e : Export) → otlp_fault e ≡ None → AllByRecursion (λ p. has_bad_bounds p ≡ false) e.points
-unfolding otlp_fault
-no_bad_bounds e none =
-    none_pass has_bad_bounds 0 e.points (sym (position_from-zero has_bad_bounds e.points) ∙ mapped_none (λ i. otlp.BadBounds i) _ (left_none (bounds_fault e) _ none))
+module _ (e : Export) (none : otlp_fault e ≡ None) where
+  none_early : early_fault e ≡ None
+  unfolding otlp_fault
+  none_early = left_none (early_fault e) _ none
 
-short_request : (e : Export) → otlp_fault e ≡ None → IsShort (request e)
-unfolding otlp_fault
-short_request e none =
-    let few = not_more most_bytes (length (request e)) (not_when (nat_lt most_bytes (length (request e))) otlp.TooLong (left_none (length_fault e) None (right_none (bounds_fault e) _ none))) in
-    record { length_fits = omega (arith, few) }
+  no_bad_bounds : AllByRecursion (λ p. has_bad_bounds p ≡ false) e.points
+  unfolding early_fault
+  no_bad_bounds =
+      none_pass has_bad_bounds 0 e.points (sym (position_from-zero has_bad_bounds e.points) ∙ mapped_none (λ i. otlp.BadBounds i) _ (left_none (bounds_fault e) _ none_early))
+
+  no_long_text : (is_long e.writer.service ≡ false) × AllByRecursion (λ p. has_long_text p ≡ false) e.points
+  unfolding early_fault
+  no_long_text =
+      let short = none_of (is_long e.writer.service) (list_any has_long_text e.points) (not_when _ otlp.TooLongText (left_none (text_fault e) _ (right_none (bounds_fault e) _ none_early))) in
+      (short.0, none_are has_long_text e.points short.1)
+
+  few_attributes : AllByRecursion (λ p. has_many_attributes p ≡ false) e.points
+  unfolding early_fault
+  few_attributes =
+      none_pass has_many_attributes 0 e.points (sym (position_from-zero has_many_attributes e.points) ∙ mapped_none (λ i. otlp.TooManyAttributes i) _ (left_none (attributes_fault e) None (right_none (text_fault e) _ (right_none (bounds_fault e) _ none_early))))
+
+  short_request : IsShort (request e)
+  unfolding otlp_fault
+  short_request =
+      let few = not_more most_bytes (length (request e)) (not_when (nat_lt most_bytes (length (request e))) otlp.TooLong (left_none (length_fault e) None (right_none (early_fault e) _ none))) in
+      record { length_fits = omega (arith, few) }
 
 -- ---- the whole
 
@@ -380,18 +346,16 @@ scope_run start time (p ∷ ps) h = (h, stream_runs start (p ∷ ps) (all_of (λ
 all_sound : (e : Export) → AllByRecursion (λ p. IsSound p.stream.shape p.payload) e.points
 all_sound e = each_of (λ p. IsSound p.stream.shape p.payload) e.points (sound_points e.start e.time e.points e.sound)
 
-sent : (e : Export) → IsExport e → IsSaid e → AllByRecursion (IsSent e.start) e.points
-sent e fits said = all_sent e.start e.points (all_sound e) fits.points said.points
+sent : (e : Export) → IsExport e → IsSaid e → otlp_fault e ≡ None → AllByRecursion (IsSent e.start) e.points
+sent e fits said none = all_sent e.start e.points (all_sound e) fits.points said.points (no_long_text e none).1 (few_attributes e none)
 
 heard : (e : Export) → IsExport e → IsSaid e → otlp_fault e ≡ None → exports_read (request e) ≡ exports_in (heard_request e)
 unfolding exports_read
 heard e fits said none =
-    let parts_are =
-    parts_hold (IsSent e.start) (λ p. p.stream.scope) has_long_text of_one_scope e.points
-    (runs_hold (IsSent e.start) (λ p. p.stream.scope) of_one_scope (λ x y f. exact_texts x.stream.scope y.stream.scope (first_holds _ _ f)) e.points (sent e fits said)) in
-    let scope_runs = all_of (IsRun (IsSent e.start) (λ p. p.stream.scope)) (IsScopeRun e.start e.time) (scope_run e.start e.time) (parts of_one_scope has_long_text e.points) parts_are in
+    let runs_are = runs_hold (IsSent e.start) (λ p. p.stream.scope) of_one_scope (λ x y f. exact_texts x.stream.scope y.stream.scope f) e.points (sent e fits said none) in
+    let scope_runs = all_of (IsRun (IsSent e.start) (λ p. p.stream.scope)) (IsScopeRun e.start e.time) (scope_run e.start e.time) (runs of_one_scope e.points) runs_are in
     ap (λ (r : Result Request RequestFault). and_then r exports_in)
-    (request_heard e fits.start fits.time (instance_key, IsUtf8-from_ascii _ (hyphenated_ascii lower e.writer.instance (inl refl))) (service_key, fits.writer.service) scope_runs (short_request e none))
+    (request_heard e fits.start fits.time (instance_key, IsUtf8-from_ascii _ (hyphenated_ascii lower e.writer.instance (inl refl))) (service_key, fits.writer.service) (no_long_text e none).0 scope_runs (short_request e none))
   where
     instance_key : IsUtf8 (codes "service.instance.id")
     instance_key = IsUtf8-from_ascii (codes "service.instance.id") (all_ascii (codes "service.instance.id") refl)
@@ -406,13 +370,12 @@ read_back : (e : Export) → IsExport e → IsSaid e → otlp_fault e ≡ None �
 unfolding exports_in add_resource walk
 read_back e fits said none =
     let w = e.writer in
-    let rs = map (heard_scope e.start e.time) (parts of_one_scope has_long_text e.points) in
-    let g = scopes_gain e.start e.time nothing_read e.points (all_back e.start e.points (sent e fits said) (no_bad_bounds e none) (all_sound e)) in
+    let rs = map (heard_scope e.start e.time) (runs of_one_scope e.points) in
+    let g = scopes_gain e.start e.time nothing_read e.points (all_back e.start e.points (sent e fits said none) (no_bad_bounds e none) (all_sound e)) in
     let reading = g.reading in
     ap (λ (x : Result WriterId RequestFault). and_then (and_then (and_then x (λ (v : WriterId). and_then (walk (add_scope rs) nothing_read rs) (λ (r : Reading). exports_of v [] r))) (λ (p : Progress). Ok p)) (λ (p : Progress). Ok p.1)) (writer_back 0 w fits.writer)
     ∙ ap (λ (x : Result Reading RequestFault). and_then (and_then (and_then x (λ (r : Reading). exports_of w [] r)) (λ (p : Progress). Ok p)) (λ (p : Progress). Ok p.1)) g.so
-    ∙ ap (λ (gs : List Group). and_then (and_then (and_then (held w.service (length gs)) (λ (u : Unit {0}). and_then (walk (add_export w) [] gs) (λ (more : List Said). Ok (left_of reading, more)))) (λ (p : Progress). Ok p)) (λ (p : Progress). Ok p.1)) (ap groups_of g.placed_are ∙ one_group e.start e.time e.points said.some)
-    ∙ ap (λ (x : Result (Unit {0}) RequestFault). and_then (and_then (and_then x (λ (u : Unit {0}). and_then (walk (add_export w) [] (group_with e.start e.time e.points ∷ [])) (λ (more : List Said). Ok (left_of reading, more)))) (λ (p : Progress). Ok p)) (λ (p : Progress). Ok p.1)) (held_once w.service)
+    ∙ ap (λ (gs : List Group). and_then (and_then (and_then (walk (add_export w) [] gs) (λ (more : List Said). Ok (left_of reading, more))) (λ (p : Progress). Ok p)) (λ (p : Progress). Ok p.1)) (ap groups_of g.placed_are ∙ one_group e.start e.time e.points said.some)
     ∙ ap (λ (o : Option ExportFault). and_then (and_then (and_then (and_then (and_then (built 0 (said_of e) o) (λ (s : Said). Ok (s ∷ []))) (λ (l : List Said). Ok l)) (λ (more : List Said). Ok (left_of reading, more))) (λ (p : Progress). Ok p)) (λ (p : Progress). Ok p.1)) e.sound
 
 pub comes_back : (e : Export) → IsExport e → IsSaid e → otlp_fault e ≡ None → exports_read (request e) ≡ Ok (said_of e ∷ [])

@@ -1,22 +1,15 @@
--- Attributes whose key an earlier one may have, and scopes whose name.
-use Rattle.std.proofs.Common.{◌≡◌, ℕ, ◌+◌, ◌<◌, Bool, true, false, cond, List, [], ◌∷◌, length, drop, get_or, map, Some, Option, unwrap_or, Result, Ok, Err, inl, inr, refl, sym, ap, ◌∙◌, arith}
-use Rattle.std.specs.List.{position, position_from}
-use Rattle.std.specs.Ordering.{is_eq}
-use Rattle.std.specs.Str.{bytes_eq}
-use Rattle.std.proofs.lemmas.Iterator.Adapters.{position_from-zero}
-use Rattle.std.proofs.lemmas.Map.Text.{is_eq-slice_cmp}
-use Rattle.attr_kit.specs.Orders.{text_cmp}
+-- Scopes whose name an earlier one may have.
+use Rattle.std.proofs.Common.{◌≡◌, ℕ, ◌+◌, ◌<◌, Bool, true, false, List, length, drop, get_or, map, Result, Ok, Err, sym, ap, ◌∙◌}
 use Rattle.std.specs.Prelude.{slice_get}
 use Rattle.std.proofs.Math.ListN.{get_or-map}
 use Rattle.std.proofs.lemmas.List.{get_or_default, length-map}
-use Rattle.otlp_kit.specs.Fields.{and_then}
-use Rattle.otlp_kit.specs.Reading.{refuse_when, key_of, scope_name, differs, add_metrics, behind_scope, add_scope}
-use Rattle.otlp_kit.specs.Walks.{AreFirsts, StandsAt, walk_from, first_place}
-use Rattle.otlp_kit.specs.declared.key_value.KeyValue.{KeyValue}
+use Rattle.otlp_kit.specs.Fields.{and_then, refused}
+use Rattle.otlp_kit.specs.Reading.{refuse_when, scope_name, differs, add_metrics, behind_scope, add_scope}
+use Rattle.otlp_kit.specs.Walks.{walk_from, first_place}
 use Rattle.otlp_kit.specs.declared.metric.Metric.{Metric}
 use Rattle.otlp_kit.specs.declared.reading.Reading.{Reading}
 use Rattle.otlp_kit.specs.declared.request_fault.RequestFault.{RequestFault}
-use Rattle.otlp_kit.specs.declared.request_fault.RequestFault.TheVariants as faults
+use Rattle.otlp_kit.specs.declared.request_fault.RequestReason.TheVariants as reasons
 use Rattle.otlp_kit.specs.declared.scope.ScopeMetrics.{ScopeMetrics}
 use Rattle.otlp_kit.proofs.Walking.{walk_on, walk_refused}
 
@@ -36,24 +29,19 @@ module _ {A : Type 0} (key : A → List ℕ) (given : List A) (keys seen : List 
       within : i < length given → i < length (map (first_place (map key given)) (map key given))
       within h = rw (length-map, length-map) h
 
--- the first place that was kept
-pub kept_first : (given : List KeyValue) (firsts : List ℕ) (i first : ℕ) (a : KeyValue) → AreFirsts (map key_of given) firsts → StandsAt given i a → i < length firsts → first ≡ get_or firsts i first → first ≡ first_place (map key_of given) (key_of a)
-kept_first given firsts i first a (inl none) stands within at = absurd (omega (arith, ap length none))
-kept_first given firsts i first a (inr all) stands within at = first_is key_of given (map key_of given) (map key_of given) firsts refl refl all i first a stands.0 at stands.1
-
 module _ (given : List ScopeMetrics) (keys seen : List (List ℕ)) (firsts : List ℕ) (keys_are : keys ≡ map scope_name given) (seen_are : seen ≡ keys) (firsts_are : firsts ≡ map (first_place seen) seen) where
   -- a scope is told apart from the first of its name
-  scope_added : (i first : ℕ) (a : ScopeMetrics) (r : Reading) (other : Bool) → i < length given → first ≡ get_or firsts i first → a ≡ get_or given i a → other ≡ differs a (slice_get given first) → add_scope given i r (get_or given i a) ≡ and_then (refuse_when other (faults.ScopeTwice r.scopes)) (λ u. and_then (add_metrics (scope_name a) r a.metrics) (λ t. Ok (behind_scope t)))
+  scope_added : (i first : ℕ) (a : ScopeMetrics) (r : Reading) (other : Bool) → i < length given → first ≡ get_or firsts i first → a ≡ get_or given i a → other ≡ differs a (slice_get given first) → add_scope given i r (get_or given i a) ≡ and_then (refuse_when other (refused reasons.ScopeTwice r.scopes)) (λ u. and_then (add_metrics (scope_name a) r a.metrics) (λ t. Ok (behind_scope t)))
   unfolding add_scope
   scope_added i first a r other h at is e =
-      let later = λ (b : Bool). and_then (refuse_when b (faults.ScopeTwice r.scopes)) (λ (u : Unit {0}). and_then (add_metrics (scope_name a) r a.metrics) (λ (t : Reading). Ok (behind_scope t))) in
+      let later = λ (b : Bool). and_then (refuse_when b (refused reasons.ScopeTwice r.scopes)) (λ (u : Unit {0}). and_then (add_metrics (scope_name a) r a.metrics) (λ (t : Reading). Ok (behind_scope t))) in
       ap (add_scope given i r) (sym is)
       ∙ ap (λ (n : ℕ). later (differs a (slice_get given n))) (sym (first_is scope_name given keys seen firsts keys_are seen_are firsts_are i first a h at is))
       ∙ ap later (sym e)
 
-  pub scope_refused : (whole : Result Reading RequestFault) (i first : ℕ) (a : ScopeMetrics) (r : Reading) (other : Bool) → i < length given → first ≡ get_or firsts i first → a ≡ get_or given i a → walk_from (add_scope given) i r (drop i given) ≡ whole → other ≡ differs a (slice_get given first) → other ≡ true → whole ≡ Err (faults.ScopeTwice r.scopes)
+  pub scope_refused : (whole : Result Reading RequestFault) (i first : ℕ) (a : ScopeMetrics) (r : Reading) (other : Bool) → i < length given → first ≡ get_or firsts i first → a ≡ get_or given i a → walk_from (add_scope given) i r (drop i given) ≡ whole → other ≡ differs a (slice_get given first) → other ≡ true → whole ≡ Err (refused reasons.ScopeTwice r.scopes)
   scope_refused whole i first a r other h at is inv e t =
-      walk_refused (add_scope given) whole i r (faults.ScopeTwice r.scopes) given a h inv (scope_added i first a r true h at is (sym t ∙ e))
+      walk_refused (add_scope given) whole i r (refused reasons.ScopeTwice r.scopes) given a h inv (scope_added i first a r true h at is (sym t ∙ e))
 
   metrics_added : (i first : ℕ) (a : ScopeMetrics) (r : Reading) (other : Bool) (name : List ℕ) (ms : List Metric) (result : Result Reading RequestFault) → i < length given → first ≡ get_or firsts i first → a ≡ get_or given i a → other ≡ differs a (slice_get given first) → other ≡ false → name ≡ scope_name a → ms ≡ a.metrics → add_metrics name r ms ≡ result → add_scope given i r (get_or given i a) ≡ and_then result (λ t. Ok (behind_scope t))
   metrics_added i first a r other name ms result h at is e t n m w =
@@ -74,11 +62,3 @@ with_scopes t n = record { scopes = n; metrics = t.metrics; points = t.points; p
 
 pub one_scope_more : (t : Reading) (n : ℕ) → n ≡ t.scopes + 1 → with_scopes t n ≡ behind_scope t
 one_scope_more t n e = ap (with_scopes t) e
-
-found_at : {A : Type 0} (key : A → List ℕ) (k : List ℕ) (given : List A) (n : ℕ) → position_from (λ a. bytes_eq k (key a)) n given ≡ position_from (λ u. is_eq (text_cmp k u)) n (map key given)
-found_at key k [] n = refl
-found_at key k (a ∷ given) n = (λ i. cond (sym (is_eq-slice_cmp k (key a)) i) (Some n) (found_at key k given (n + 1) i))
-
--- the least place of a key, found by comparing texts
-pub place_of_key : (k : List ℕ) (given : List KeyValue) → unwrap_or (position (λ a. bytes_eq k (key_of a)) given) 0 ≡ first_place (map key_of given) k
-place_of_key k given = ap (λ (o : Option ℕ). unwrap_or o 0) (position_from-zero (λ a. bytes_eq k (key_of a)) given ∙ found_at key_of k given 0)

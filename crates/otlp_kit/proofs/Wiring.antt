@@ -7,12 +7,12 @@ use Rattle.std.proofs.lemmas.List.{take_at, drop_at, length-append}
 use Rattle.std.proofs.lemmas.Nat.{from_le_bytes-to_le_bytes_8}
 use Rattle.otlp_kit.specs.Wire.{groups, varint, tag, block, number, eight, fixed}
 use Rattle.otlp_kit.specs.Spans.{Span, front, behind}
-use Rattle.otlp_kit.specs.Fields.{and_then, group_below, groups_at, varint_at, Found, varint_content, block_content, content_at, tagged, next_field}
+use Rattle.otlp_kit.specs.Fields.{and_then, group_below, groups_at, varint_at, Found, varint_content, block_content, content_at, tagged, next_field, refused}
 use Rattle.otlp_kit.specs.declared.field.Content.{Content}
 use Rattle.otlp_kit.specs.declared.field.Content.TheVariants as contents
 use Rattle.otlp_kit.specs.declared.field.Field.{Field}
 use Rattle.otlp_kit.specs.declared.request_fault.RequestFault.{RequestFault}
-use Rattle.otlp_kit.specs.declared.request_fault.RequestFault.TheVariants as faults
+use Rattle.otlp_kit.specs.declared.request_fault.RequestReason.TheVariants as reasons
 
 abbrev pub span : ℕ → List ℕ → Span
 span at bytes = record { at = at; bytes = bytes }
@@ -112,7 +112,7 @@ reads_tag field wire at rest is small =
     let most = is.most in
     ap (λ (b : Bool). cond b (Ok (None, span at (varint t ++ rest))) (tagged at (varint_at (span at (varint t ++ rest))))) (not_zero (length (varint t ++ rest)) some)
     ∙ ap (tagged at) (reads_varint t at rest (omega arith))
-    ∙ (λ i. cond (is_not_less t 8 (omega arith) i || not_at_most (2 ^ 32) t (omega arith) i) (Err (faults.Malformed at)) (next (t % 8) (t / 8)))
+    ∙ (λ i. cond (is_not_less t 8 (omega arith) i || not_at_most (2 ^ 32) t (omega arith) i) (Err (refused reasons.Malformed at)) (next (t % 8) (t / 8)))
     ∙ (λ i. next (remains i) (divides i))
   where
     remains : (8 * field + wire) % 8 ≡ wire
@@ -150,7 +150,7 @@ reads_fixed field n at rest is fits =
     let room : 8 ≤ length (bytes ++ rest) = omega (arith, length-append bytes rest) in
     let value : from_le_bytes w64 (take 8 (bytes ++ rest)) ≡ n = ap (from_le_bytes w64) (take_at bytes rest 8 size) ∙ from_le_bytes-to_le_bytes_8 n fits in
     found field 1 at (contents.Eight n) bytes rest is (omega arith)
-    (ap (λ (b : Bool). cond b (Ok (contents.Eight (from_le_bytes w64 (take 8 (bytes ++ rest))), behind 8 (span place (bytes ++ rest)))) (Err (faults.Malformed at))) (at_most 8 (length (bytes ++ rest)) room)
+    (ap (λ (b : Bool). cond b (Ok (contents.Eight (from_le_bytes w64 (take 8 (bytes ++ rest))), behind 8 (span place (bytes ++ rest)))) (Err (refused reasons.Malformed at))) (at_most 8 (length (bytes ++ rest)) room)
     ∙ (λ i. Ok (contents.Eight (value i), span (place + 8) (drop_at bytes rest 8 size i))))
 
 -- the bytes of a block stand behind its tag and its length
@@ -167,6 +167,6 @@ reads_block field at bytes rest is fits =
     found field 2 at (contents.Block (span from bytes)) (varint n ++ bytes) rest is (omega arith)
     (ap (λ (l : List ℕ). block_content at (span place l) (varint_at (span place l))) (append_assoc (varint n) bytes rest)
     ∙ ap (block_content at (span place (varint n ++ (bytes ++ rest)))) (reads_varint n place (bytes ++ rest) fits)
-    ∙ ap (λ (b : Bool). cond b (Ok (contents.Block (front n (span from (bytes ++ rest))), behind n (span from (bytes ++ rest)))) (Err (faults.Malformed at))) (at_most n (length (bytes ++ rest)) room)
+    ∙ ap (λ (b : Bool). cond b (Ok (contents.Block (front n (span from (bytes ++ rest))), behind n (span from (bytes ++ rest)))) (Err (refused reasons.Malformed at))) (at_most n (length (bytes ++ rest)) room)
     ∙ (λ i. Ok (contents.Block (span from (take_at bytes rest n refl i)), span (from + n) (drop_at bytes rest n refl i)))
     ∙ ap (λ (p : ℕ). Ok (contents.Block (span from bytes), span p rest)) (omega (arith, length-append (varint n) bytes)))

@@ -6,7 +6,12 @@ use Rattle.otlp_kit.specs.declared.field.Content.{Content}
 use Rattle.otlp_kit.specs.declared.field.Content.TheVariants as contents
 use Rattle.otlp_kit.specs.declared.field.Field.{Field}
 use Rattle.otlp_kit.specs.declared.request_fault.RequestFault.{RequestFault}
-use Rattle.otlp_kit.specs.declared.request_fault.RequestFault.TheVariants as faults
+use Rattle.otlp_kit.specs.declared.request_fault.RequestReason.{RequestReason}
+use Rattle.otlp_kit.specs.declared.request_fault.RequestReason.TheVariants as reasons
+
+-- why a request is not read, and where
+abbrev pub refused : RequestReason → ℕ → RequestFault
+refused why place = record { why = why; place = place }
 
 -- what an answer leads to: a refusal stays
 abbrev pub and_then : {A B : Type 0} → Result A RequestFault → (A → Result B RequestFault) → Result B RequestFault
@@ -35,20 +40,20 @@ abbrev pub Found : Type 0
 Found = Result (Content × Span) RequestFault
 
 abbrev pub varint_content : Span → Option (ℕ × Span) → Found
-varint_content s None = Err (faults.Malformed s.at)
+varint_content s None = Err (refused reasons.Malformed s.at)
 varint_content s (Some p) = Ok (contents.Varint p.0, p.1)
 
 abbrev pub eight_content : ℕ → Span → Found
 eight_content at s =
-    if nat_le 8 (length s.bytes) then Ok (contents.Eight (from_le_bytes w64 (take 8 s.bytes)), behind 8 s) else Err (faults.Malformed at)
+    if nat_le 8 (length s.bytes) then Ok (contents.Eight (from_le_bytes w64 (take 8 s.bytes)), behind 8 s) else Err (refused reasons.Malformed at)
 
 abbrev pub block_content : ℕ → Span → Option (ℕ × Span) → Found
-block_content at s None = Err (faults.Malformed s.at)
+block_content at s None = Err (refused reasons.Malformed s.at)
 block_content at s (Some p) =
-    if nat_le p.0 (length p.1.bytes) then Ok (contents.Block (front p.0 p.1), behind p.0 p.1) else Err (faults.Malformed at)
+    if nat_le p.0 (length p.1.bytes) then Ok (contents.Block (front p.0 p.1), behind p.0 p.1) else Err (refused reasons.Malformed at)
 
 abbrev pub four_content : ℕ → Span → Found
-four_content at s = if nat_le 4 (length s.bytes) then Ok (contents.Four, behind 4 s) else Err (faults.Malformed at)
+four_content at s = if nat_le 4 (length s.bytes) then Ok (contents.Four, behind 4 s) else Err (refused reasons.Malformed at)
 
 -- what follows a tag of this wire type
 unfoldable pub content_at : ℕ → ℕ → Span → Found
@@ -57,13 +62,13 @@ content_at at wire s =
     else if wire == 1 then eight_content at s
     else if wire == 2 then block_content at s (varint_at s)
     else if wire == 5 then four_content at s
-    else Err (faults.Malformed at)
+    else Err (refused reasons.Malformed at)
 
 -- field numbers go from 1 to 2 ^ 29 - 1
 abbrev pub tagged : ℕ → Option (ℕ × Span) → Result (Option Field × Span) RequestFault
-tagged at None = Err (faults.Malformed at)
+tagged at None = Err (refused reasons.Malformed at)
 tagged at (Some p) =
-    if nat_lt p.0 8 || nat_le (2 ^ 32) p.0 then Err (faults.Malformed at)
+    if nat_lt p.0 8 || nat_le (2 ^ 32) p.0 then Err (refused reasons.Malformed at)
     else and_then (content_at at (p.0 % 8) p.1) (λ c. Ok (Some (record { at = at; number = p.0 / 8; content = c.0 }), c.1))
 
 -- the next field, where one is left, and what is left behind it

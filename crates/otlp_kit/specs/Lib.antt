@@ -1,11 +1,9 @@
 pub mod Contents
-pub mod Copies
 pub mod Doubles
 pub mod Exact
 pub mod Fields
-pub mod Hashes
+pub mod Limits
 pub mod Messages
-pub mod PairOrder
 pub mod Reading
 pub mod Refusals
 pub mod Request

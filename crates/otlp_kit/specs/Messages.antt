@@ -1,7 +1,9 @@
 -- What the fields of each message are, by the numbers that opentelemetry-proto gives them. Others are passed over.
-use Rattle.std.specs.Prelude.{ℕ, ◌==◌, ◌||◌, nat_lt, if◌then◌else◌, Bool, List, [], ◌∷◌, ◌++◌, not, Option, Some, None, Result, Ok}
+use Rattle.std.specs.Prelude.{ℕ, ◌==◌, ◌||◌, nat_eq, nat_lt, codes, if◌then◌else◌, Bool, List, [], ◌∷◌, ◌++◌, not, Option, Some, None, Result, Ok}
+use Rattle.std.specs.Cmp.Lexicographic.{pointwise}
 use Rattle.std.specs.Int.{cast_signed, w64}
-use Rattle.otlp_kit.specs.Contents.{block_in, eights_in, once, number_once, eight_once, text_once}
+use Rattle.std.specs.Option.{unwrap_or}
+use Rattle.otlp_kit.specs.Contents.{block_in, eights_in, fits, once, name_once, number_once, eight_once, text_once}
 use Rattle.otlp_kit.specs.Fields.{and_then, message}
 use Rattle.otlp_kit.specs.declared.field.Field.{Field}
 use Rattle.otlp_kit.specs.declared.histogram_point.HistogramPoint.{HistogramPoint}
@@ -183,8 +185,8 @@ is_data f = (f.number == 5) || ((f.number == 7) || ((f.number == 9) || ((f.numbe
 
 unfoldable pub metric_step : Metric → Field → Result Metric RequestFault
 metric_step m f =
-    if f.number == 1 then and_then (text_once f m.name) (λ t. Ok (record { name = Some t; unit = m.unit; kind = m.kind }))
-    else if f.number == 3 then and_then (text_once f m.unit) (λ t. Ok (record { name = m.name; unit = Some t; kind = m.kind }))
+    if f.number == 1 then and_then (name_once f m.name) (λ t. Ok (record { name = Some t; unit = m.unit; kind = m.kind }))
+    else if f.number == 3 then and_then (name_once f m.unit) (λ t. Ok (record { name = m.name; unit = Some t; kind = m.kind }))
     else if is_data f then and_then (once f m.kind (data_of f)) (λ d. Ok (record { name = m.name; unit = m.unit; kind = Some d }))
     else Ok m
 
@@ -194,7 +196,7 @@ no_scope = record { name = None; version = None; attributes = [] }
 
 unfoldable pub scope_step : Scope → Field → Result Scope RequestFault
 scope_step s f =
-    if f.number == 1 then and_then (text_once f s.name) (λ t. Ok (record { name = Some t; version = s.version; attributes = s.attributes }))
+    if f.number == 1 then and_then (name_once f s.name) (λ t. Ok (record { name = Some t; version = s.version; attributes = s.attributes }))
     else if f.number == 2 then and_then (text_once f s.version) (λ t. Ok (record { name = s.name; version = Some t; attributes = s.attributes }))
     else if f.number == 3 then and_then (block_in f) (λ b. and_then (message key_value_step no_key_value b) (λ _. Ok (record { name = s.name; version = s.version; attributes = s.attributes ++ b.bytes ∷ [] })))
     else Ok s
@@ -209,13 +211,28 @@ scope_metrics_step s f =
     else if f.number == 2 then and_then (within metric_step no_metric f) (λ m. Ok (record { scope = s.scope; metrics = s.metrics ++ m ∷ [] }))
     else Ok s
 
+-- the text of a service has a limit, and that of another attribute has none
+abbrev pub text_of : Option AnyContent → List ℕ
+text_of (Some (anys.Text t)) = t
+text_of other = []
+
+abbrev pub value_text : Option AnyValue → List ℕ
+value_text None = []
+value_text (Some v) = text_of v.content
+
+abbrev pub service_text : KeyValue → List ℕ
+service_text a = if pointwise nat_eq (unwrap_or a.key []) (codes "service.name") then value_text a.value else []
+
+abbrev pub service_fits : Field → KeyValue → Result (List ℕ) RequestFault
+service_fits f a = fits f (service_text a)
+
 -- Resource: attributes 1
 abbrev pub no_resource : Resource
 no_resource = record { attributes = [] }
 
 unfoldable pub resource_step : Resource → Field → Result Resource RequestFault
 resource_step r f =
-    if f.number == 1 then and_then (key_value_in f) (λ a. Ok (record { attributes = r.attributes ++ a ∷ [] }))
+    if f.number == 1 then and_then (key_value_in f) (λ a. and_then (service_fits f a) (λ _. Ok (record { attributes = r.attributes ++ a ∷ [] })))
     else Ok r
 
 -- ResourceMetrics: resource 1, scope_metrics 2

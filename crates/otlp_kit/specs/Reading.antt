@@ -1,8 +1,8 @@
 -- The exports that a request brings, or why it brings none. Places are counted through the whole request.
-use Rattle.std.specs.Prelude.{ℕ, ℤ, ◌+◌, ◌%◌, ◌==◌, ◌&&◌, nat_eq, nat_lt, not, if◌then◌else◌, Bool, true, false, List, [], ◌∷◌, ◌++◌, length, map, fold, drop, slice_get, codes, Option, Some, None, Result, Ok, Err}
+use Rattle.std.specs.Prelude.{ℕ, ℤ, ◌+◌, ◌%◌, ◌==◌, ◌&&◌, nat_eq, not, if◌then◌else◌, Bool, true, false, List, [], ◌∷◌, ◌++◌, length, map, fold, take, drop, slice_get, codes, Option, Some, None, Result, Ok, Err}
 use Rattle.std.specs.Cmp.Lexicographic.{pointwise}
 use Rattle.std.specs.Int.{cast_signed, w64}
-use Rattle.std.specs.List.{list_all, list_any, position, sum_by}
+use Rattle.std.specs.List.{list_any, position}
 use Rattle.std.specs.Option.{unwrap_or}
 use Rattle.attr_kit.specs.Putting.{attributes_of}
 use Rattle.attr_kit.specs.declared.attr_value.AttrValue.{AttrValue}
@@ -18,9 +18,9 @@ use Rattle.point_kit.specs.declared.shape.Shape.TheVariants as shapes
 use Rattle.point_kit.specs.declared.stream.Stream.{Stream}
 use Rattle.point_kit.specs.declared.writer_id.WriterId.{WriterId}
 use Rattle.uuid.specs.Text.{parsed_hyphenated}
-use Rattle.otlp_kit.specs.Copies.{is_long, any_long}
+use Rattle.otlp_kit.specs.Limits.{are_many}
 use Rattle.otlp_kit.specs.Exact.{exact}
-use Rattle.otlp_kit.specs.Fields.{and_then}
+use Rattle.otlp_kit.specs.Fields.{and_then, refused}
 use Rattle.otlp_kit.specs.Messages.{request_said}
 use Rattle.otlp_kit.specs.Refusals.{rises}
 use Rattle.otlp_kit.specs.Walks.{walk, first_place}
@@ -39,7 +39,7 @@ use Rattle.otlp_kit.specs.declared.number_point.NumberPoint.{NumberPoint}
 use Rattle.otlp_kit.specs.declared.placed.Placed.{Placed}
 use Rattle.otlp_kit.specs.declared.reading.Reading.{Reading}
 use Rattle.otlp_kit.specs.declared.request_fault.RequestFault.{RequestFault}
-use Rattle.otlp_kit.specs.declared.request_fault.RequestFault.TheVariants as faults
+use Rattle.otlp_kit.specs.declared.request_fault.RequestReason.TheVariants as reasons
 use Rattle.otlp_kit.specs.declared.resource.Request.{Request}
 use Rattle.otlp_kit.specs.declared.resource.Resource.{Resource}
 use Rattle.otlp_kit.specs.declared.resource.ResourceMetrics.{ResourceMetrics}
@@ -49,10 +49,6 @@ use Rattle.otlp_kit.specs.declared.scope.ScopeMetrics.{ScopeMetrics}
 abbrev pub refuse_when : Bool → RequestFault → Result (Unit {0}) RequestFault
 refuse_when true f = Err f
 refuse_when false f = Ok _
-
--- a long text is held or looked at 64 times at most
-abbrev pub held : List ℕ → ℕ → Result (Unit {0}) RequestFault
-held text times = refuse_when (is_long (length text) && nat_lt 64 times) faults.Repeats
 
 -- a text that is left out is empty, a number 0
 abbrev pub text_or_empty : Option (List ℕ) → List ℕ
@@ -78,42 +74,47 @@ abbrev pub key_of : KeyValue → List ℕ
 key_of a = text_or_empty a.key
 
 abbrev pub pair_of : ℕ → List ℕ → Option AttrValue → Result (List ℕ × AttrValue) RequestFault
-pair_of n key None = Err (faults.AttributeValue n)
+pair_of n key None = Err (refused reasons.AttributeValue n)
 pair_of n key (Some v) = Ok (key, v)
 
 abbrev pub attribute : ℕ → Bool → KeyValue → Result (List ℕ × AttrValue) RequestFault
 attribute n twice a =
-    if length (key_of a) == 0 then Err (faults.EmptyKey n)
-    else if twice then Err (faults.AttributeTwice n)
+    if length (key_of a) == 0 then Err (refused reasons.EmptyKey n)
+    else if twice then Err (refused reasons.AttributeTwice n)
     else pair_of n (key_of a) (value_of a.value)
+
+abbrev pub has_key : List ℕ → KeyValue → Bool
+has_key key a = pointwise nat_eq (key_of a) key
 
 -- whether an earlier attribute has the key of the one at a place
 abbrev pub is_twice : List KeyValue → ℕ → KeyValue → Bool
-is_twice attrs i a = not (first_place (map key_of attrs) (key_of a) == i)
+is_twice attrs i a = list_any (has_key (key_of a)) (take i attrs)
 
 abbrev pub add_attribute : ℕ → List KeyValue → ℕ → List (List ℕ × AttrValue) → KeyValue → Result (List (List ℕ × AttrValue)) RequestFault
 add_attribute n attrs i pairs a = and_then (attribute n (is_twice attrs i a) a) (λ p. Ok (pairs ++ p ∷ []))
 
 unfoldable pub attributes : ℕ → List KeyValue → Result (List (List ℕ × AttrValue)) RequestFault
-attributes n attrs = and_then (walk (add_attribute n attrs) [] attrs) (λ pairs. Ok (attributes_of pairs))
+attributes n attrs =
+    and_then (refuse_when (are_many attrs) (refused reasons.TooManyAttributes n)) (λ _.
+    and_then (walk (add_attribute n attrs) [] attrs) (λ pairs. Ok (attributes_of pairs)))
 
 -- ---- points
 
 -- flag 1 says that there is no recorded value
 abbrev pub recorded : ℕ → Option ℕ → Result (Unit {0}) RequestFault
-recorded n flags = refuse_when (or_zero flags % 2 == 1) (faults.NoRecordedValue n)
+recorded n flags = refuse_when (or_zero flags % 2 == 1) (refused reasons.NoRecordedValue n)
 
 -- a start of 0 stands for unknown
 abbrev pub started : ℕ → Option ℕ → Result (Unit {0}) RequestFault
-started n start = refuse_when (or_zero start == 0) (faults.UnknownStart n)
+started n start = refuse_when (or_zero start == 0) (refused reasons.UnknownStart n)
 
 abbrev pub placed : Option ℕ → Option ℕ → Stream → List (List ℕ × AttrValue) → Payload → Placed
 placed start time stream attrs payload =
     record { start = or_zero start; time = or_zero time; point = record { stream = stream; attrs = attrs; payload = payload } }
 
 abbrev pub whole : ℕ → Option Number → Result ℤ RequestFault
-whole n None = Err (faults.NoValue n)
-whole n (Some numbers.Double) = Err (faults.FloatValue n)
+whole n None = Err (refused reasons.NoValue n)
+whole n (Some numbers.Double) = Err (refused reasons.FloatValue n)
 whole n (Some (numbers.Whole bits)) = Ok (cast_signed w64 bits)
 
 abbrev pub number_placed : ℕ → Stream → NumberPoint → Payload → Result Placed RequestFault
@@ -129,7 +130,7 @@ sum_point n stream p =
     number_placed n stream p (payloads.Sum v))))
 
 abbrev pub sum_of : ℕ → Option ℕ → Result ℤ RequestFault
-sum_of n None = Err (faults.NoSum n)
+sum_of n None = Err (refused reasons.NoSum n)
 sum_of n (Some bits) = exact n bits
 
 abbrev pub add_bound : ℕ → ℕ → List ℤ → ℕ → Result (List ℤ) RequestFault
@@ -137,13 +138,13 @@ add_bound n i bounds bits = and_then (exact n bits) (λ bound. Ok (bounds ++ bou
 
 abbrev pub bounds_of : ℕ → List ℕ → Result (List ℤ) RequestFault
 bounds_of n doubles =
-    and_then (walk (add_bound n) [] doubles) (λ bounds. and_then (refuse_when (not (rises bounds)) (faults.BadBounds n)) (λ _. Ok bounds))
+    and_then (walk (add_bound n) [] doubles) (λ bounds. and_then (refuse_when (not (rises bounds)) (refused reasons.BadBounds n)) (λ _. Ok bounds))
 
 -- the least value and the greatest: both, or neither
 abbrev pub range_of : ℕ → Option ℕ → Option ℕ → Result (Option (ℤ × ℤ)) RequestFault
 range_of n None None = Ok None
-range_of n (Some least) None = Err (faults.HalfRange n)
-range_of n None (Some greatest) = Err (faults.HalfRange n)
+range_of n (Some least) None = Err (refused reasons.HalfRange n)
+range_of n None (Some greatest) = Err (refused reasons.HalfRange n)
 range_of n (Some least) (Some greatest) = and_then (exact n least) (λ a. and_then (exact n greatest) (λ b. Ok (Some (a, b))))
 
 -- a histogram with neither buckets nor bounds has one bucket
@@ -181,28 +182,8 @@ add_histogram_point scope name unit i r p = and_then (histogram_point r.points s
 -- a sum or a histogram is cumulative
 abbrev pub cumulative : ℕ → Option ℕ → Result (Unit {0}) RequestFault
 cumulative m temporality =
-    if or_zero temporality == 1 then Err (faults.Delta m)
-    else refuse_when (not (or_zero temporality == 2)) (faults.NoTemporality m)
-
--- whether points of a histogram have the bounds of the first of them
-abbrev pub bounds_in : Option HistogramPoint → List ℕ
-bounds_in None = []
-bounds_in (Some p) = p.bounds
-
-abbrev pub has_bounds : List ℕ → HistogramPoint → Bool
-has_bounds bounds p = pointwise nat_eq p.bounds bounds
-
-abbrev pub have_one_bounds : List HistogramPoint → Bool
-have_one_bounds ps = list_all (has_bounds (bounds_in (slice_get ps 0))) ps
-
--- where one of their texts is long, points of a histogram have the same bounds, and so one stream
-abbrev pub one_stream : List ℕ → List ℕ → List ℕ → List HistogramPoint → Result (Unit {0}) RequestFault
-one_stream scope name unit ps =
-    refuse_when (any_long scope name unit && not (have_one_bounds ps)) faults.Repeats
-
--- and no stream more than 64 points: each of them has it compared
-abbrev pub few_points : List ℕ → List ℕ → List ℕ → ℕ → Result (Unit {0}) RequestFault
-few_points scope name unit count = refuse_when (any_long scope name unit && nat_lt 64 count) faults.Repeats
+    if or_zero temporality == 1 then Err (refused reasons.Delta m)
+    else refuse_when (not (or_zero temporality == 2)) (refused reasons.NoTemporality m)
 
 abbrev pub stream_of : List ℕ → Metric → Shape → Stream
 stream_of scope m shape = named scope (text_or_empty m.name) (text_or_empty m.unit) shape
@@ -211,21 +192,16 @@ abbrev pub is_monotonic : Option ℕ → Bool
 is_monotonic n = not (or_zero n == 0)
 
 abbrev pub add_data : List ℕ → Metric → Reading → Option Data → Result Reading RequestFault
-add_data scope m r (Some (kinds.Gauge g)) =
-    and_then (few_points scope (text_or_empty m.name) (text_or_empty m.unit) (length g.points)) (λ _.
-    walk (add_gauge_point (stream_of scope m shapes.Gauge)) r g.points)
+add_data scope m r (Some (kinds.Gauge g)) = walk (add_gauge_point (stream_of scope m shapes.Gauge)) r g.points
 add_data scope m r (Some (kinds.Sum s)) =
     and_then (cumulative r.metrics s.temporality) (λ _.
-    and_then (few_points scope (text_or_empty m.name) (text_or_empty m.unit) (length s.points)) (λ _.
-    walk (add_sum_point (stream_of scope m (shapes.Sum (is_monotonic s.monotonic)))) r s.points))
+    walk (add_sum_point (stream_of scope m (shapes.Sum (is_monotonic s.monotonic)))) r s.points)
 add_data scope m r (Some (kinds.Histogram h)) =
     and_then (cumulative r.metrics h.temporality) (λ _.
-    and_then (few_points scope (text_or_empty m.name) (text_or_empty m.unit) (length h.points)) (λ _.
-    and_then (one_stream scope (text_or_empty m.name) (text_or_empty m.unit) h.points) (λ _.
-    walk (add_histogram_point scope (text_or_empty m.name) (text_or_empty m.unit)) r h.points)))
-add_data scope m r (Some kinds.ExponentialHistogram) = Err (faults.ExponentialHistogram r.metrics)
-add_data scope m r (Some kinds.Summary) = Err (faults.Summary r.metrics)
-add_data scope m r None = Err (faults.NoData r.metrics)
+    walk (add_histogram_point scope (text_or_empty m.name) (text_or_empty m.unit)) r h.points)
+add_data scope m r (Some kinds.ExponentialHistogram) = Err (refused reasons.ExponentialHistogram r.metrics)
+add_data scope m r (Some kinds.Summary) = Err (refused reasons.Summary r.metrics)
+add_data scope m r None = Err (refused reasons.NoData r.metrics)
 
 abbrev pub behind_metric : Reading → Reading
 behind_metric r = record { scopes = r.scopes; metrics = r.metrics + 1; points = r.points; placed = r.placed }
@@ -233,20 +209,8 @@ behind_metric r = record { scopes = r.scopes; metrics = r.metrics + 1; points = 
 unfoldable pub add_metric : List ℕ → ℕ → Reading → Metric → Result Reading RequestFault
 add_metric scope i r m = and_then (add_data scope m r m.kind) (λ s. Ok (behind_metric s))
 
--- how often a metric has its scope: for each point, and once where there is none
-abbrev pub points_in : Option Data → ℕ
-points_in (Some (kinds.Gauge g)) = length g.points
-points_in (Some (kinds.Sum s)) = length s.points
-points_in (Some (kinds.Histogram h)) = length h.points
-points_in (Some kinds.ExponentialHistogram) = 0
-points_in (Some kinds.Summary) = 0
-points_in None = 0
-
-abbrev pub times_held : Metric → ℕ
-times_held m = if points_in m.kind == 0 then 1 else points_in m.kind
-
-unfoldable pub add_metrics : List ℕ → Reading → List Metric → Result Reading RequestFault
-add_metrics scope r ms = and_then (held scope (sum_by times_held ms)) (λ _. walk (add_metric scope) r ms)
+abbrev pub add_metrics : List ℕ → Reading → List Metric → Result Reading RequestFault
+add_metrics scope r ms = walk (add_metric scope) r ms
 
 -- ---- scopes
 
@@ -283,13 +247,10 @@ behind_scope r = record { scopes = r.scopes + 1; metrics = r.metrics; points = r
 
 unfoldable pub add_scope : List ScopeMetrics → ℕ → Reading → ScopeMetrics → Result Reading RequestFault
 add_scope scopes i r s =
-    and_then (refuse_when (is_other scopes s) (faults.ScopeTwice r.scopes)) (λ _.
+    and_then (refuse_when (is_other scopes s) (refused reasons.ScopeTwice r.scopes)) (λ _.
     and_then (add_metrics (scope_name s) r s.metrics) (λ t. Ok (behind_scope t)))
 
 -- ---- resources
-
-abbrev pub has_key : List ℕ → KeyValue → Bool
-has_key key a = pointwise nat_eq (key_of a) key
 
 -- the place of the only attribute of a key
 abbrev pub alone : List ℕ → List KeyValue → Option ℕ → Option ℕ
@@ -323,9 +284,9 @@ or_refuse (Some x) f = Ok x
 -- the writer of resource r: its service.name, and its service.instance.id as a UUID with hyphens
 unfoldable pub writer_of : ℕ → List KeyValue → Result WriterId RequestFault
 writer_of r attrs =
-    and_then (or_refuse (text_under (codes "service.name") attrs) (faults.NoService r)) (λ service.
-    and_then (or_refuse (text_under (codes "service.instance.id") attrs) (faults.NoInstance r)) (λ text.
-    and_then (or_refuse (parsed_hyphenated text) (faults.NotUuid r)) (λ instance.
+    and_then (or_refuse (text_under (codes "service.name") attrs) (refused reasons.NoService r)) (λ service.
+    and_then (or_refuse (text_under (codes "service.instance.id") attrs) (refused reasons.NoInstance r)) (λ text.
+    and_then (or_refuse (parsed_hyphenated text) (refused reasons.NotUuid r)) (λ instance.
     Ok (record { service = service; instance = instance }))))
 
 -- the points of one start and time, in their order
@@ -355,7 +316,7 @@ said_of e = record { writer = e.writer; start = e.start; time = e.time; points =
 -- what makes no export is refused with the number of those before
 abbrev pub built : ℕ → Said → Option ExportFault → Result Said RequestFault
 built k said None = Ok said
-built k said (Some f) = Err (faults.BadExport k f)
+built k said (Some f) = Err (refused (reasons.BadExport f) k)
 
 abbrev pub add_export : WriterId → ℕ → List Said → Group → Result (List Said) RequestFault
 add_export writer i exports g =
@@ -366,12 +327,10 @@ add_export writer i exports g =
 abbrev pub groups_of : List Placed → List Group
 groups_of ps = fold add_member [] ps
 
--- the service is held for each export
 abbrev pub exports_of : WriterId → List Said → Reading → Result (Reading × List Said) RequestFault
 exports_of writer exports r =
-    and_then (held writer.service (length (groups_of r.placed))) (λ _.
     and_then (walk (add_export writer) exports (groups_of r.placed)) (λ more.
-    Ok (record { scopes = r.scopes; metrics = r.metrics; points = r.points; placed = [] }, more)))
+    Ok (record { scopes = r.scopes; metrics = r.metrics; points = r.points; placed = [] }, more))
 
 -- the places that the next messages have, and the exports so far
 abbrev pub Progress : Type 0

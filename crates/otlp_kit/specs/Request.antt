@@ -1,5 +1,5 @@
 -- The request that brings an export: an ExportMetricsServiceRequest of opentelemetry-proto.
-use Rattle.std.specs.Prelude.{ℕ, ℤ, nat_eq, not, ◌&&◌, ◌||◌, ◌∷◌, Bool, true, false, if◌then◌else◌, List, [], ◌++◌, Option, Some, None, codes}
+use Rattle.std.specs.Prelude.{ℕ, ℤ, nat_eq, ◌∷◌, Bool, true, false, if◌then◌else◌, List, [], ◌++◌, Option, Some, None, codes}
 use Rattle.std.specs.Int.{cast_unsigned, w64}
 use Rattle.std.specs.List.{flat_map}
 use Rattle.attr_kit.specs.declared.attr_value.AttrValue.{AttrValue}
@@ -15,9 +15,8 @@ use Rattle.point_kit.specs.declared.shape.Shape.{Shape}
 use Rattle.point_kit.specs.declared.shape.Shape.TheVariants as shapes
 use Rattle.point_kit.specs.declared.stream.Stream.{Stream}
 use Rattle.point_kit.specs.declared.writer_id.WriterId.{WriterId}
-use Rattle.otlp_kit.specs.Copies.{any_long}
 use Rattle.otlp_kit.specs.Doubles.{double}
-use Rattle.otlp_kit.specs.Runs.{runs, parts}
+use Rattle.otlp_kit.specs.Runs.{runs}
 use Rattle.otlp_kit.specs.Wire.{block, number, eight, fixed, text_unless_empty, fixed_unless_zero}
 use Rattle.uuid.specs.Text.{hyphenated_text, lower}
 
@@ -133,20 +132,11 @@ unfoldable pub scope_metrics : ℕ → ℕ → List ExportPoint → List ℕ
 scope_metrics start time [] = []
 scope_metrics start time (p ∷ ps) = block 2 (scope_fields start time p.stream.scope (p ∷ ps))
 
--- whether a text of a stream is long
-abbrev pub is_long_stream : Stream → Bool
-is_long_stream s = any_long s.scope s.name s.unit
-
-abbrev pub has_long_text : ExportPoint → Bool
-has_long_text p = is_long_stream p.stream
-
--- a stream with a long text shares no ScopeMetrics
 abbrev pub of_one_scope : ExportPoint → ExportPoint → Bool
-of_one_scope p q = pointwise nat_eq p.stream.scope q.stream.scope && ((not (has_long_text p) && not (has_long_text q)) || of_one_stream p q)
+of_one_scope p q = pointwise nat_eq p.stream.scope q.stream.scope
 
--- and has one for each 64 of its points
 unfoldable pub scopes : ℕ → ℕ → List ExportPoint → List ℕ
-scopes start time ps = flat_map (scope_metrics start time) (parts of_one_scope has_long_text ps)
+scopes start time ps = flat_map (scope_metrics start time) (runs of_one_scope ps)
 
 -- ResourceMetrics: resource, scope_metrics
 unfoldable pub resource_metrics : Export → List ℕ

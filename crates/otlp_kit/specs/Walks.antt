@@ -1,5 +1,5 @@
 -- Lists that are gone through until something is refused.
-use Rattle.std.specs.Prelude.{◌≡◌, ◌⊎◌, ℕ, ◌+◌, ◌<◌, List, [], ◌∷◌, length, map, get_or, Result, Ok}
+use Rattle.std.specs.Prelude.{ℕ, ◌+◌, List, [], ◌∷◌, Result, Ok}
 use Rattle.std.specs.Option.{unwrap_or}
 use Rattle.std.specs.List.{position_from}
 use Rattle.std.specs.Ordering.{is_eq}
@@ -19,11 +19,3 @@ module _ {S A : Type 0} (step : ℕ → S → A → Result S RequestFault) where
 -- the least place at which a text stands in a list that has it
 abbrev pub first_place : List (List ℕ) → List ℕ → ℕ
 first_place texts t = unwrap_or (position_from (λ u. is_eq (text_cmp t u)) 0 texts) 0
-
--- no places, or of each text the least one at which it stands
-abbrev pub AreFirsts : List (List ℕ) → List ℕ → Type 0
-AreFirsts texts firsts = (firsts ≡ []) ⊎ (firsts ≡ map (first_place texts) texts)
-
--- an element stands at a place of a list
-abbrev pub StandsAt : {A : Type 0} → List A → ℕ → A → Type 0
-StandsAt xs i x = (i < length xs) × (x ≡ get_or xs i x)

@@ -1,17 +1,17 @@
 //! The exports that a request brings.
-ghost use Rattle.std.specs.Prelude.{◌≡◌, ◌≢◌, ◌++◌, [], ◌∷◌, length, map, Ok, Err, Some, None, IfOk, IfErr, OnOk};
+ghost use Rattle.std.specs.Prelude.{◌≡◌, ◌≢◌, ◌++◌, [], ◌∷◌, map, Ok, Err, Some, None, IfOk, IfErr, OnOk};
 ghost use Rattle.point_kit.specs.ExportFaults.{export_fault};
-ghost use Rattle.otlp_kit.specs.Reading.{Said, said_of, built, add_export, groups_of, exports_of, held, add_resource, exports_in, exports_read, nothing_read};
+ghost use Rattle.otlp_kit.specs.Reading.{Said, said_of, built, add_export, groups_of, exports_of, add_resource, exports_in, exports_read, nothing_read};
+ghost use Rattle.otlp_kit.specs.Fields.{refused};
 ghost use Rattle.otlp_kit.specs.Walks.{walk};
 
-use crate::RequestFault;
-use crate::copies::held;
 use crate::group::{Group, groups_of};
 use crate::message::read;
 use crate::reading::Reading;
 use crate::resource::{Request, ResourceMetrics};
 use crate::span::Span;
 use crate::writer::{resource_attributes, writer_of};
+use crate::{RequestFault, RequestReason};
 use attr_kit::{NoMemory, Seq};
 use point_kit::{Export, ExportFault, WriterId};
 use std::alloc::Global;
@@ -29,13 +29,13 @@ fn build(
     ensures taken_at { IfOk result (λ e. e.time ≡ group.time) }
     ensures points { IfOk result (λ e. e.points ≡ group.points) }
     ensures ok { OnOk result (export_fault group.start group.time group.points ≡ None) }
-    ensures err { IfErr result (λ f. f ≢ RequestFault.NoMemory
-        → (g : _) × (export_fault group.start group.time group.points ≡ Some g) × (f ≡ RequestFault.BadExport number g)) }
+    ensures err { IfErr result (λ f. f.why ≢ RequestReason.NoMemory
+        → (g : _) × (export_fault group.start group.time group.points ≡ Some g) × (f ≡ refused (RequestReason.BadExport g) number)) }
 {
     match Export::build(alloc, writer, group.start, group.time, group.points) {
         Ok(export) => Ok(export),
-        Err(ExportFault::NoMemory) => Err(RequestFault::NoMemory),
-        Err(fault) => Err(RequestFault::BadExport(number, fault)),
+        Err(ExportFault::NoMemory) => Err(RequestReason::NoMemory.at(0)),
+        Err(fault) => Err(RequestReason::BadExport(fault).at(number)),
     }
 }
 
@@ -55,7 +55,7 @@ fn add_exports(
 ) -> Result<(), RequestFault>
     ensures ok { OnOk result (walk (add_export writer.now) (map said_of exports.old.items) groups.items
         ≡ Ok (map said_of exports.new.items)) }
-    ensures err { IfErr result (λ f. f ≢ RequestFault.NoMemory
+    ensures err { IfErr result (λ f. f.why ≢ RequestReason.NoMemory
         → walk (add_export writer.now) (map said_of exports.old.items) groups.items ≡ Err f) }
 {
     let mut rest = groups.into_iter();
@@ -64,13 +64,6 @@ fn add_exports(
         push_export(exports, export)?;
     }
     Ok(())
-}
-
-// That each export may have its service.
-fn service_held(writer: &WriterId, groups: &[Group]) -> Result<(), RequestFault>
-    ensures { result ≡ held writer.now.service (length groups.now) }
-{
-    held(writer.service.as_str(), groups.len())
 }
 
 #[tactic(auto, unfolding(crate::specs::Reading::add_resource))]
@@ -83,21 +76,20 @@ fn add_resource(
 ) -> Result<(), RequestFault>
     ensures ok { OnOk result (add_resource place (reading.old, map said_of exports.old.items) resource.now
         ≡ Ok (reading.new, map said_of exports.new.items)) }
-    ensures err { IfErr result (λ f. f ≢ RequestFault.NoMemory
+    ensures err { IfErr result (λ f. f.why ≢ RequestReason.NoMemory
         → add_resource place (reading.old, map said_of exports.old.items) resource.now ≡ Err f) }
 {
     let writer = writer_of(place, resource_attributes(&resource.resource))?;
     reading.add_scopes(alloc, resource.scopes.as_slice())?;
     let placed = mem::replace(&mut reading.placed, Seq::new(alloc));
     let groups = groups_of(alloc, placed)?;
-    service_held(&writer, groups.as_slice())?;
     add_exports(alloc, &writer, groups, exports)
 }
 
 #[tactic(auto, unfolding(crate::specs::Reading::exports_in, crate::specs::Walks::walk))]
 fn exports_in(alloc: Global, request: &Request) -> Result<Vec<Export>, RequestFault>
     ensures ok { IfOk result (λ exports. exports_in request.now ≡ Ok (map said_of exports.items)) }
-    ensures err { IfErr result (λ f. f ≢ RequestFault.NoMemory → exports_in request.now ≡ Err f) }
+    ensures err { IfErr result (λ f. f.why ≢ RequestReason.NoMemory → exports_in request.now ≡ Err f) }
 {
     let mut reading = Reading::new(alloc);
     let mut exports = Vec::new(alloc);
@@ -114,27 +106,24 @@ fn exports_in(alloc: Global, request: &Request) -> Result<Vec<Export>, RequestFa
 /// their order. Its writer is the resource's `service.name`, and its `service.instance.id` as a UUID. A scope is its name.
 /// Doubles must be whole numbers below 2^53 in size. Fields that are not known are passed over.
 ///
-/// Refused as [`RequestFault`] tells: first what is wrong with the bytes, at the least place, and then, in the order of the
+/// Refused as [`RequestReason`] tells: first what is wrong with the bytes, at the least place, and then, in the order of the
 /// request, what they say; of one message in the order of the variants, but that a histogram is looked at field by field: its sum,
-/// its bounds and that they rise, its least value and its greatest. docs/INTEROP.md has the whole. `NoMemory` may come at
+/// its bounds and that they rise, its least value and its greatest. docs/use/INTEROP.md has the whole. `NoMemory` may come at
 /// any place of bytes that are not empty. A length is compared with the bytes that are left before it is used.
 ///
-/// Time is O(n) in the bytes, whatever they say: each byte is looked at a bounded number of times. The scopes of a resource and
-/// the keys of a point are told apart by their hashes (SipHash-1-3), and whole texts are compared only where these are equal;
-/// of at most 16 attributes each key is compared with those before it. More keys are put in order eight bytes at a time. What
-/// is sorted by comparing are numbers of 64 and 128 bits: these eight bytes, the hashes of an export's points, and the windows
-/// of a resource. That takes a few comparisons for each bit of them at most, however many they are.
+/// Time is O(n) in the bytes, whatever they say, but for sorting: each key of a point is compared with at most 127 others, and
+/// what is put in order are the names of a resource's scopes, the hashes of an export's points and the windows of a resource.
+/// A name has at most 1,024 bytes, and the others have 64 and 128 bits. So that takes a few comparisons for each bit of their
+/// number, of which a length has at most 31.
 ///
-/// Memory is O(n). Each stream has copies of its scope's name, its name and its unit, and each export one of its service.
-/// Where two points of an export share a hash, the texts of each point's stream are hashed once more. A text of more than
-/// 1,024 bytes stands at most for 64: `Repeats` refuses more points of a scope or a stream, more exports of a service, and
-/// points of a histogram that differ in their bounds. A shorter one stands for what has 15 bytes and more of its own. So the
-/// copies come to at most some 160 bytes for each byte, and so does what is hashed.
+/// Memory is O(n). Each stream has copies of its scope's name, its name and its unit, and each export one of its service. They
+/// stand for what has 15 bytes and more of its own, and have at most 1,024 bytes each. So the copies come to at most some 160
+/// bytes for each byte, and so does what is hashed.
 #[tactic(auto, using(crate::proofs::Empty::no_exports), unfolding(crate::specs::Reading::exports_read))]
 pub fn decode_otlp(alloc: Global, bytes: &[u8]) -> Result<Vec<Export>, RequestFault>
     ensures value { IfOk result (λ exports. exports_read bytes.now ≡ Ok (map said_of exports.items)) }
-    ensures err { IfErr result (λ f. f ≢ RequestFault.NoMemory → exports_read bytes.now ≡ Err f) }
-    ensures no_memory { IfErr result (λ f. f ≡ RequestFault.NoMemory → bytes.now ≢ []) }
+    ensures err { IfErr result (λ f. f.why ≢ RequestReason.NoMemory → exports_read bytes.now ≡ Err f) }
+    ensures no_memory { IfErr result (λ f. f.why ≡ RequestReason.NoMemory → bytes.now ≢ []) }
 {
     if bytes.is_empty() {
         return Ok(Vec::new(alloc));

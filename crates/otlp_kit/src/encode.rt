@@ -1,6 +1,6 @@
 //! The request that brings an export.
 ghost use Rattle.std.specs.Prelude.{◌≡◌, ◌≢◌, ◌++◌, IfOk, IfErr, OnOk, Some, None};
-ghost use Rattle.otlp_kit.specs.Refusals.{bounds_fault, otlp_fault};
+ghost use Rattle.otlp_kit.specs.Refusals.{early_fault, otlp_fault};
 ghost use Rattle.otlp_kit.specs.Request.{resource, resource_metrics, request};
 ghost use Rattle.otlp_kit.specs.Wire.{block};
 
@@ -8,7 +8,7 @@ use crate::OtlpFault;
 use crate::attributes::write_resource;
 use crate::metrics::write_scopes;
 use crate::points::Window;
-use crate::refusals::bad_bounds_at;
+use crate::refusals::early_fault;
 use crate::wire::close_block;
 use attr_kit::NoMemory;
 use point_kit::{Export, WriterId};
@@ -49,23 +49,22 @@ fn write_request(export: &Export, out: &mut Vec<u8>) -> Result<(), NoMemory>
 /// any library for Protocol Buffers makes them. They are the body of a POST to `/v1/metrics` of a Collector, with
 /// `Content-Type: application/x-protobuf`.
 ///
-/// Points keep their order, and neighbours share a ScopeMetrics where their scope is one, and a Metric where their stream is. A
-/// stream whose scope, name or unit has more than 1,024 bytes has a ScopeMetrics of its own for each 64 points, so that who
-/// reads them need not look at such a text more often.
+/// Points keep their order, and neighbours share a ScopeMetrics where their scope is one, and a Metric where their stream is.
 /// The writer is the resource, as `service.instance.id` and `service.name`. Sums and histograms are cumulative. Start and
 /// time are nanoseconds since the Unix epoch; a start of 0 is left out, and readers take it for unknown. A histogram's sum,
 /// range and bounds are doubles: each is exact up to 2^53, and beyond the nearest double. All else is exact.
 ///
-/// Refused in the order of [`OtlpFault`]: `BadBounds` before anything is written, then `TooLong`. `NoMemory` comes only where
-/// no bounds are bad; whether the request is too long is then open. O(n) in the bytes of the request and in the bounds.
+/// Refused in the order of [`OtlpFault`]: `BadBounds`, `TooLongText` and `TooManyAttributes` before anything is written, then
+/// `TooLong`. `NoMemory` comes only where none of the first three does; whether the request is too long is then open. O(n) in
+/// the bytes of the request and in the bounds.
 pub fn encode_otlp(alloc: Global, export: &Export) -> Result<Vec<u8>, OtlpFault>
     ensures value { IfOk result (λ bytes. bytes.items ≡ request export.now) }
     ensures ok { OnOk result (otlp_fault export.now ≡ None) }
     ensures err { IfErr result (λ f. f ≢ OtlpFault.NoMemory → otlp_fault export.now ≡ Some f) }
-    ensures no_memory { IfErr result (λ f. f ≡ OtlpFault.NoMemory → bounds_fault export.now ≡ None) }
+    ensures no_memory { IfErr result (λ f. f ≡ OtlpFault.NoMemory → early_fault export.now ≡ None) }
 {
-    if let Some(place) = bad_bounds_at(export.points()) {
-        return Err(OtlpFault::BadBounds(place));
+    if let Some(fault) = early_fault(export) {
+        return Err(fault);
     }
     let mut bytes = Vec::new(alloc);
     write_request(export, &mut bytes)?;

@@ -4,8 +4,8 @@ ghost use Rattle.otlp_kit.specs.Exact.{exact_size, exact};
 ghost use Rattle.otlp_kit.specs.Reading.{add_bound, bounds_of, range_of, sum_of};
 ghost use Rattle.otlp_kit.specs.Walks.{walk};
 
-use crate::RequestFault;
 use crate::refusals::are_rising;
+use crate::{RequestFault, RequestReason};
 use attr_kit::NoMemory;
 use std::alloc::Global;
 
@@ -31,16 +31,16 @@ fn exact_size(point: usize, exponent: u64, fraction: u64) -> Result<u64, Request
         return Ok(0);
     }
     if exponent < BIAS || exponent == NOT_FINITE {
-        return Err(RequestFault::NotWhole(point));
+        return Err(RequestReason::NotWhole.at(point));
     }
     if exponent > BIAS + FRACTION_BITS as u64 {
-        return Err(RequestFault::Inexact(point));
+        return Err(RequestReason::Inexact.at(point));
     }
     // What 1 is in the last digit.
     let unit = 1 << (BIAS + FRACTION_BITS as u64 - exponent);
     let digits = (1 << FRACTION_BITS) + fraction;
     if digits % unit != 0 {
-        return Err(RequestFault::NotWhole(point));
+        return Err(RequestReason::NotWhole.at(point));
     }
     Ok(digits / unit)
 }
@@ -61,7 +61,7 @@ pub(crate) fn sum_of(point: usize, sum: Option<u64>) -> Result<i64, RequestFault
 {
     match sum {
         Some(bits) => exact(point, bits),
-        None => Err(RequestFault::NoSum(point)),
+        None => Err(RequestReason::NoSum.at(point)),
     }
 }
 
@@ -76,7 +76,7 @@ pub(crate) fn range_of(
     match (least, greatest) {
         (Some(least), Some(greatest)) => Ok(Some((exact(point, least)?, exact(point, greatest)?))),
         (None, None) => Ok(None),
-        _ => Err(RequestFault::HalfRange(point)),
+        _ => Err(RequestReason::HalfRange.at(point)),
     }
 }
 
@@ -91,7 +91,7 @@ fn push_bound(bounds: &mut Vec<i64>, bound: i64) -> Result<(), NoMemory>
 #[tactic(auto, unfolding(crate::specs::Walks::walk))]
 fn all_exact(alloc: Global, point: usize, doubles: &[u64]) -> Result<Vec<i64>, RequestFault>
     ensures ok { IfOk result (λ bounds. walk (add_bound point) [] doubles.now ≡ Ok bounds.items) }
-    ensures err { IfErr result (λ f. f ≢ RequestFault.NoMemory → walk (add_bound point) [] doubles.now ≡ Err f) }
+    ensures err { IfErr result (λ f. f.why ≢ RequestReason.NoMemory → walk (add_bound point) [] doubles.now ≡ Err f) }
 {
     let mut bounds = Vec::new(alloc);
     for bits in doubles {
@@ -107,11 +107,11 @@ pub(crate) fn bounds_of(
     doubles: &[u64],
 ) -> Result<Vec<i64>, RequestFault>
     ensures ok { IfOk result (λ bounds. bounds_of point doubles.now ≡ Ok bounds.items) }
-    ensures err { IfErr result (λ f. f ≢ RequestFault.NoMemory → bounds_of point doubles.now ≡ Err f) }
+    ensures err { IfErr result (λ f. f.why ≢ RequestReason.NoMemory → bounds_of point doubles.now ≡ Err f) }
 {
     let bounds = all_exact(alloc, point, doubles)?;
     if !are_rising(bounds.as_slice()) {
-        return Err(RequestFault::BadBounds(point));
+        return Err(RequestReason::BadBounds.at(point));
     }
     Ok(bounds)
 }

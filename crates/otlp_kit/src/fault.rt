@@ -12,6 +12,12 @@ pub enum OtlpFault {
     /// or fall, or become the same double. OTLP asks for bounds that strictly rise.
     #[error("the bounds of point {0} do not rise as doubles")]
     BadBounds(usize),
+    /// The service, or the scope, the name or the unit of a point, has more than 1,024 bytes.
+    #[error("a service, a scope, a name or a unit has more than 1024 bytes")]
+    TooLongText,
+    /// The point at this place, the first such, has more than 128 attributes.
+    #[error("point {0} has more than 128 attributes")]
+    TooManyAttributes(usize),
     /// The request has more than 2^31 - 1 bytes, the most that a message of Protocol Buffers may have.
     #[error("the request has more than 2147483647 bytes")]
     TooLong,

@@ -1,11 +1,12 @@
 //! Fields of a message, read one by one.
 ghost use Rattle.std.specs.Prelude.{◌≡◌, ◌≢◌, ◌/◌, ◌++◌, [], ◌∷◌, length, OnOk, Some, None, Ok, Err, IfOk, IfErr, IfSome, IfNone};
 ghost use Rattle.otlp_kit.specs.Fields.{groups_at, varint_at, varint_content, eight_content, block_content, four_content, content_at, next_field, and_then};
-ghost use Rattle.otlp_kit.specs.Contents.{number_in, eight_in, block_in, eights, eights_in, free, number_once, eight_once, text_once};
-ghost use Rattle.otlp_kit.specs.declared.request_fault.RequestFault.TheVariants as faults;
+ghost use Rattle.otlp_kit.specs.Contents.{number_in, eight_in, block_in, eights, eights_in, free, number_once, eight_once, text_once, fits, name_once};
+ghost use Rattle.otlp_kit.specs.declared.request_fault.RequestReason.TheVariants as reasons;
 
-use crate::RequestFault;
+use crate::limits::is_long;
 use crate::span::Span;
+use crate::{RequestFault, RequestReason};
 use attr_kit::{NoMemory, Txt};
 use std::alloc::Global;
 
@@ -63,7 +64,7 @@ fn varint_content<'a>(span: &mut Span<'a>) -> Result<Content<'a>, RequestFault>
     let at = span.at();
     match varint(span) {
         Some(number) => Ok(Content::Varint(number)),
-        None => Err(RequestFault::Malformed(at)),
+        None => Err(RequestReason::Malformed.at(at)),
     }
 }
 
@@ -74,7 +75,7 @@ fn eight_content<'a>(at: usize, span: &mut Span<'a>) -> Result<Content<'a>, Requ
 {
     match span.eight() {
         Some(number) => Ok(Content::Eight(number)),
-        None => Err(RequestFault::Malformed(at)),
+        None => Err(RequestReason::Malformed.at(at)),
     }
 }
 
@@ -86,11 +87,11 @@ fn block_content<'a>(at: usize, span: &mut Span<'a>) -> Result<Content<'a>, Requ
 {
     let place = span.at();
     let Some(len) = varint(span) else {
-        return Err(RequestFault::Malformed(place));
+        return Err(RequestReason::Malformed.at(place));
     };
     match span.take(len as usize) {
         Some(block) => Ok(Content::Block(block)),
-        None => Err(RequestFault::Malformed(at)),
+        None => Err(RequestReason::Malformed.at(at)),
     }
 }
 
@@ -101,7 +102,7 @@ fn four_content<'a>(at: usize, span: &mut Span<'a>) -> Result<Content<'a>, Reque
 {
     match span.take(4) {
         Some(_) => Ok(Content::Four),
-        None => Err(RequestFault::Malformed(at)),
+        None => Err(RequestReason::Malformed.at(at)),
     }
 }
 
@@ -116,7 +117,7 @@ fn content_of<'a>(at: usize, wire: u64, span: &mut Span<'a>) -> Result<Content<'
         1 => eight_content(at, span),
         2 => block_content(at, span),
         5 => four_content(at, span),
-        _ => Err(RequestFault::Malformed(at)),
+        _ => Err(RequestReason::Malformed.at(at)),
     }
 }
 
@@ -145,7 +146,7 @@ impl<'a> Field<'a> {
     pub(crate) fn push_eights(&self, numbers: &mut Vec<u64>) -> Result<(), RequestFault>
         ensures ok { OnOk result (and_then (eights_in self.now) (λ more. Ok (numbers.old.items ++ more))
             ≡ Ok numbers.new.items) }
-        ensures err { IfErr result (λ f. f ≢ faults.NoMemory → eights_in self.now ≡ Err f) }
+        ensures err { IfErr result (λ f. f.why ≢ reasons.NoMemory → eights_in self.now ≡ Err f) }
     {
         match &self.content {
             Content::Eight(number) => {
@@ -156,7 +157,7 @@ impl<'a> Field<'a> {
                 push_packed(numbers, &mut list.copy())?;
                 Ok(())
             }
-            _ => Err(RequestFault::Malformed(self.at)),
+            _ => Err(RequestReason::Malformed.at(self.at)),
         }
     }
 
@@ -166,7 +167,7 @@ impl<'a> Field<'a> {
     {
         match &self.content {
             Content::Varint(number) => Ok(*number),
-            _ => Err(RequestFault::Malformed(self.at)),
+            _ => Err(RequestReason::Malformed.at(self.at)),
         }
     }
 
@@ -176,7 +177,7 @@ impl<'a> Field<'a> {
     {
         match &self.content {
             Content::Eight(number) => Ok(*number),
-            _ => Err(RequestFault::Malformed(self.at)),
+            _ => Err(RequestReason::Malformed.at(self.at)),
         }
     }
 
@@ -186,7 +187,7 @@ impl<'a> Field<'a> {
     {
         match &self.content {
             Content::Block(block) => Ok(block.copy()),
-            _ => Err(RequestFault::Malformed(self.at)),
+            _ => Err(RequestReason::Malformed.at(self.at)),
         }
     }
 
@@ -196,7 +197,7 @@ impl<'a> Field<'a> {
     {
         match held {
             None => Ok(()),
-            Some(_) => Err(RequestFault::Malformed(self.at)),
+            Some(_) => Err(RequestReason::Malformed.at(self.at)),
         }
     }
 
@@ -216,16 +217,37 @@ impl<'a> Field<'a> {
         self.eight()
     }
 
+    /// That a text is not longer than one that has a limit.
+    pub(crate) fn fits(&self, text: &str) -> Result<(), RequestFault>
+        ensures ok { OnOk result (fits self.now text.now ≡ Ok text.now) }
+        ensures err { IfErr result (λ f. fits self.now text.now ≡ Err f) }
+    {
+        if is_long(text) {
+            return Err(RequestReason::TooLongText.at(self.at));
+        }
+        Ok(())
+    }
+
+    /// The text of a field that must come once, and has a limit.
+    pub(crate) fn name<A>(&self, alloc: Global, held: &Option<A>) -> Result<Txt, RequestFault>
+        ensures ok { IfOk result (λ text. name_once self.now held.now ≡ Ok text) }
+        ensures err { IfErr result (λ f. f.why ≢ reasons.NoMemory → name_once self.now held.now ≡ Err f) }
+    {
+        let text = self.text(alloc, held)?;
+        self.fits(text.as_str())?;
+        Ok(text)
+    }
+
     /// The text of a field that must come once.
     pub(crate) fn text<A>(&self, alloc: Global, held: &Option<A>) -> Result<Txt, RequestFault>
         ensures ok { IfOk result (λ text. text_once self.now held.now ≡ Ok text) }
-        ensures err { IfErr result (λ f. f ≢ faults.NoMemory → text_once self.now held.now ≡ Err f) }
+        ensures err { IfErr result (λ f. f.why ≢ reasons.NoMemory → text_once self.now held.now ≡ Err f) }
     {
         self.first(held)?;
         let block = self.block()?;
         match block.text() {
             Some(text) => Ok(Txt::from_str(alloc, text)?),
-            None => Err(RequestFault::NotText(block.at())),
+            None => Err(RequestReason::NotText.at(block.at())),
         }
     }
 
@@ -249,7 +271,7 @@ impl<'a> Field<'a> {
                     content,
                 }))
             }
-            _ => Err(RequestFault::Malformed(at)),
+            _ => Err(RequestReason::Malformed.at(at)),
         }
     }
 }

@@ -4,11 +4,11 @@ ghost use Rattle.otlp_kit.specs.Contents.{eights_in};
 ghost use Rattle.otlp_kit.specs.Fields.{and_then};
 ghost use Rattle.otlp_kit.specs.Messages.{no_histogram_point, histogram_point_step};
 
-use crate::RequestFault;
 use crate::field::Field;
 use crate::key_value::KeyValue;
 use crate::lists::push;
 use crate::message::{Message, read};
+use crate::{RequestFault, RequestReason};
 use attr_kit::Seq;
 use std::alloc::Global;
 use std::mem;
@@ -31,7 +31,7 @@ pub(crate) struct HistogramPoint {
 // Puts the numbers of a field behind those of earlier ones.
 fn push_eights(alloc: Global, numbers: &mut Seq<u64>, field: &Field<'_>) -> Result<(), RequestFault>
     ensures ok { OnOk result (and_then (eights_in field.now) (λ more. Ok (numbers.old ++ more)) ≡ Ok numbers.new) }
-    ensures err { IfErr result (λ f. f ≢ RequestFault.NoMemory → eights_in field.now ≡ Err f) }
+    ensures err { IfErr result (λ f. f.why ≢ RequestReason.NoMemory → eights_in field.now ≡ Err f) }
 {
     let mut items = mem::replace(numbers, Seq::new(alloc)).into_vec();
     field.push_eights(&mut items)?;

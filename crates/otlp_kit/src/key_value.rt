@@ -1,11 +1,11 @@
 //! KeyValue and AnyValue.
 ghost use Rattle.std.specs.Prelude.{◌≡◌, ◌≢◌, Ok, Err, IfOk, IfErr, OnOk};
 ghost use Rattle.otlp_kit.specs.Messages.{any_content, any_step, no_value, key_value_step, no_key_value};
-ghost use Rattle.otlp_kit.specs.declared.request_fault.RequestFault.TheVariants as faults;
+ghost use Rattle.otlp_kit.specs.declared.request_fault.RequestReason.TheVariants as reasons;
 
-use crate::RequestFault;
 use crate::field::Field;
 use crate::message::{Message, read};
+use crate::{RequestFault, RequestReason};
 use attr_kit::Txt;
 use std::alloc::Global;
 
@@ -38,7 +38,7 @@ fn any_content(
     held: &Option<AnyContent>,
 ) -> Result<AnyContent, RequestFault>
     ensures ok { IfOk result (λ c. any_content field.now held.now ≡ Ok c) }
-    ensures err { IfErr result (λ f. f ≢ faults.NoMemory → any_content field.now held.now ≡ Err f) }
+    ensures err { IfErr result (λ f. f.why ≢ reasons.NoMemory → any_content field.now held.now ≡ Err f) }
 {
     match field.number {
         1 => Ok(AnyContent::Text(field.text(alloc, held)?)),

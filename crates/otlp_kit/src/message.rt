@@ -3,11 +3,11 @@ ghost use Rattle.std.specs.Prelude.{◌≡◌, ◌≢◌, Result, Ok, Err, IfOk,
 ghost use Rattle.otlp_kit.specs.Fields.{message};
 ghost use Rattle.otlp_kit.specs.declared.field.Field.{Field};
 ghost use Rattle.otlp_kit.specs.declared.request_fault.RequestFault.{RequestFault};
-ghost use Rattle.otlp_kit.specs.declared.request_fault.RequestFault.TheVariants as faults;
+ghost use Rattle.otlp_kit.specs.declared.request_fault.RequestReason.TheVariants as reasons;
 
-use crate::RequestFault;
 use crate::field::Field;
 use crate::span::Span;
+use crate::{RequestFault, RequestReason};
 use std::alloc::Global;
 
 /// What the fields of a message say.
@@ -23,14 +23,14 @@ pub(crate) trait Message: Sized + Drop {
 
     fn take(&mut self, alloc: Global, field: &Field<'_>) -> Result<(), RequestFault>
         ensures ok { OnOk result (step self.old field.now ≡ Ok self.new) }
-        ensures err { IfErr result (λ f. f ≢ faults.NoMemory → step self.old field.now ≡ Err f) };
+        ensures err { IfErr result (λ f. f.why ≢ reasons.NoMemory → step self.old field.now ≡ Err f) };
 }
 
 /// The message that these bytes are.
 #[tactic(auto, unfolding(crate::specs::Fields::message))]
 pub(crate) fn read<M: Message>(alloc: Global, span: &Span<'_>) -> Result<M, RequestFault>
     ensures ok { IfOk result (λ m. message M.step M.none span.now ≡ Ok m) }
-    ensures err { IfErr result (λ f. f ≢ faults.NoMemory → message M.step M.none span.now ≡ Err f) }
+    ensures err { IfErr result (λ f. f.why ≢ reasons.NoMemory → message M.step M.none span.now ≡ Err f) }
 {
     let mut said = M::new(alloc);
     let mut rest = span.copy();

@@ -2,12 +2,12 @@
 ghost use Rattle.std.specs.Prelude.{◌≡◌, ◌≢◌, Ok, Err, IfOk, IfErr, OnOk};
 ghost use Rattle.otlp_kit.specs.Messages.{data_of, no_gauge, gauge_step, no_sum, sum_step, no_histogram, histogram_step, no_metric, metric_step};
 
-use crate::RequestFault;
 use crate::field::Field;
 use crate::histogram_point::HistogramPoint;
 use crate::lists::push;
 use crate::message::{Message, read};
 use crate::number_point::NumberPoint;
+use crate::{RequestFault, RequestReason};
 use attr_kit::{Seq, Txt};
 use std::alloc::Global;
 
@@ -124,7 +124,7 @@ pub(crate) struct Metric {
 // The member of the oneof that a field is.
 fn data_of(alloc: Global, field: &Field<'_>) -> Result<Data, RequestFault>
     ensures ok { IfOk result (λ found. data_of field.now ≡ Ok found) }
-    ensures err { IfErr result (λ f. f ≢ RequestFault.NoMemory → data_of field.now ≡ Err f) }
+    ensures err { IfErr result (λ f. f.why ≢ RequestReason.NoMemory → data_of field.now ≡ Err f) }
 {
     let block = field.block()?;
     match field.number {
@@ -152,8 +152,8 @@ impl Message for Metric {
     #[tactic(auto, unfolding(crate::specs::Messages::metric_step))]
     fn take(&mut self, alloc: Global, field: &Field<'_>) -> Result<(), RequestFault> {
         match field.number {
-            1 => self.name = Some(field.text(alloc, &self.name)?),
-            3 => self.unit = Some(field.text(alloc, &self.unit)?),
+            1 => self.name = Some(field.name(alloc, &self.name)?),
+            3 => self.unit = Some(field.name(alloc, &self.unit)?),
             5 | 7 | 9 | 10 | 11 => {
                 field.first(&self.kind)?;
                 self.kind = Some(data_of(alloc, field)?);

@@ -1,13 +1,10 @@
 //! Metrics and scopes: points of one stream share a Metric, and points of one scope a ScopeMetrics.
-ghost use Rattle.std.specs.List.{flat_map};
 ghost use Rattle.std.specs.Prelude.{◌≡◌, ◌<◌, ◌++◌, length, OnOk};
-ghost use Rattle.otlp_kit.specs.Request.{points_of, sum_fields, histogram_fields, metric_data, metric_fields, metric, metrics, has_long_text, scope_fields, scope_metrics, scopes};
-ghost use Rattle.otlp_kit.specs.Runs.{pieces, parts_of_run};
+ghost use Rattle.otlp_kit.specs.Request.{points_of, sum_fields, histogram_fields, metric_data, metric_fields, metric, metrics, scope_fields, scope_metrics, scopes};
 ghost use Rattle.otlp_kit.specs.Wire.{block, text_unless_empty};
 
-use crate::copies::MOST_OF_A_LONG_TEXT;
 use crate::points::{Window, write_point};
-use crate::runs::{has_long_text, scope_run, stream_run};
+use crate::runs::{scope_run, stream_run};
 use crate::wire::{close_block, write_number, write_text_unless_empty};
 use attr_kit::{NoMemory, Txt};
 use point_kit::{ExportPoint, Shape, Stream};
@@ -147,35 +144,7 @@ fn write_scope(points: &[ExportPoint], covered: Window, out: &mut Vec<u8>) -> Re
     close_block(2, start, out)
 }
 
-// A ScopeMetrics for each 64 points: whoever reads one looks at a long text for each of its points.
-fn write_pieces(points: &[ExportPoint], covered: Window, out: &mut Vec<u8>) -> Result<(), NoMemory>
-    requires { 0 < length points.now }
-    ensures { OnOk result (out.new.items
-        ≡ out.old.items ++ flat_map (scope_metrics covered.start covered.time) (pieces points.now)) }
-{
-    let mut rest = points;
-    while rest.len() > MOST_OF_A_LONG_TEXT {
-        let (piece, after) = rest.split_at(MOST_OF_A_LONG_TEXT);
-        write_scope(piece, covered, out)?;
-        rest = after;
-    }
-    write_scope(rest, covered, out)
-}
-
-// What a run of points of one scope has.
-fn write_run(points: &[ExportPoint], covered: Window, out: &mut Vec<u8>) -> Result<(), NoMemory>
-    requires { 0 < length points.now }
-    ensures { OnOk result (out.new.items
-        ≡ out.old.items ++ flat_map (scope_metrics covered.start covered.time) (parts_of_run has_long_text points.now)) }
-{
-    if has_long_text(&points[0]) {
-        write_pieces(points, covered, out)
-    } else {
-        write_scope(points, covered, out)
-    }
-}
-
-/// A ScopeMetrics for each run of points of one scope, and for each 64 of a stream with a long text.
+/// A ScopeMetrics for each run of points of one scope.
 #[tactic(auto, unfolding(crate::specs::Request::scopes))]
 pub(crate) fn write_scopes(
     points: &[ExportPoint],
@@ -187,7 +156,7 @@ pub(crate) fn write_scopes(
     let mut rest = points;
     while !rest.is_empty() {
         let (run, after) = rest.split_at(scope_run(rest));
-        write_run(run, covered, out)?;
+        write_scope(run, covered, out)?;
         rest = after;
     }
     Ok(())

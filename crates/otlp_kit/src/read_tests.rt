@@ -444,25 +444,28 @@ fn bytes_are_refused(rt: HostRuntime) -> Result<(), Fail> {
     // A tag that ends early.
     assert_eq!(rt;
         fault(alloc, &[10, 1, 128]),
-        Some(RequestFault::Malformed(2))
+        Some(RequestReason::Malformed.at(2))
     );
     // Wire type 3.
-    assert_eq!(rt; fault(alloc, &[11]), Some(RequestFault::Malformed(0)));
+    assert_eq!(rt; fault(alloc, &[11]), Some(RequestReason::Malformed.at(0)));
     // Field 0.
-    assert_eq!(rt; fault(alloc, &[0, 0]), Some(RequestFault::Malformed(0)));
+    assert_eq!(rt; fault(alloc, &[0, 0]), Some(RequestReason::Malformed.at(0)));
     // A number that ends early, behind its tag.
-    assert_eq!(rt; fault(alloc, &[88, 255]), Some(RequestFault::Malformed(1)));
+    assert_eq!(rt;
+        fault(alloc, &[88, 255]),
+        Some(RequestReason::Malformed.at(1))
+    );
     // A length beyond the message.
     assert_eq!(rt;
         fault(alloc, &[10, 2, 10]),
-        Some(RequestFault::Malformed(0))
+        Some(RequestReason::Malformed.at(0))
     );
     // Another wire type.
-    assert_eq!(rt; fault(alloc, &[8, 1]), Some(RequestFault::Malformed(0)));
+    assert_eq!(rt; fault(alloc, &[8, 1]), Some(RequestReason::Malformed.at(0)));
     // No text.
     assert_eq!(rt;
         fault(alloc, &[10, 7, 10, 5, 10, 3, 10, 1, 255]),
-        Some(RequestFault::NotText(8))
+        Some(RequestReason::NotText.at(8))
     );
     Ok(())
 }
@@ -474,23 +477,23 @@ fn resources_are_refused(rt: HostRuntime) -> Result<(), Fail> {
     let twice = field(alloc, &[two[0].as_slice(), two[1].as_slice()])?;
     assert_eq!(rt;
         fault(alloc, twice.as_slice()),
-        Some(RequestFault::Malformed(67))
+        Some(RequestReason::Malformed.at(67))
     );
     assert_eq!(rt;
         fault_of(alloc, &[&INSTANCE])?,
-        Some(RequestFault::NoService(0))
+        Some(RequestReason::NoService.at(0))
     );
     assert_eq!(rt;
         fault_of(alloc, &[&INSTANCE, &SERVICE, &SERVICE])?,
-        Some(RequestFault::NoService(0))
+        Some(RequestReason::NoService.at(0))
     );
     assert_eq!(rt;
         fault_of(alloc, &[&SERVICE])?,
-        Some(RequestFault::NoInstance(0))
+        Some(RequestReason::NoInstance.at(0))
     );
     assert_eq!(rt;
         fault_of(alloc, &[&SERVICE, &NO_UUID])?,
-        Some(RequestFault::NotUuid(0))
+        Some(RequestReason::NotUuid.at(0))
     );
     Ok(())
 }
@@ -500,24 +503,27 @@ fn scopes_and_metrics_are_refused(rt: HostRuntime) -> Result<(), Fail> {
     let alloc = rt.alloc();
     assert_eq!(rt;
         fault_behind(alloc, &TWO_VERSIONS)?,
-        Some(RequestFault::ScopeTwice(1))
+        Some(RequestReason::ScopeTwice.at(1))
     );
     assert_eq!(rt;
         fault_behind(alloc, &EXPONENTIAL)?,
-        Some(RequestFault::ExponentialHistogram(0))
+        Some(RequestReason::ExponentialHistogram.at(0))
     );
     assert_eq!(rt;
         fault_behind(alloc, &SUMMARY)?,
-        Some(RequestFault::Summary(0))
+        Some(RequestReason::Summary.at(0))
     );
     assert_eq!(rt;
         fault_behind(alloc, &NO_DATA)?,
-        Some(RequestFault::NoData(0))
+        Some(RequestReason::NoData.at(0))
     );
-    assert_eq!(rt; fault_behind(alloc, &DELTAS)?, Some(RequestFault::Delta(0)));
+    assert_eq!(rt;
+        fault_behind(alloc, &DELTAS)?,
+        Some(RequestReason::Delta.at(0))
+    );
     assert_eq!(rt;
         fault_behind(alloc, &NO_TEMPORALITY)?,
-        Some(RequestFault::NoTemporality(0))
+        Some(RequestReason::NoTemporality.at(0))
     );
     Ok(())
 }
@@ -527,35 +533,35 @@ fn points_are_refused(rt: HostRuntime) -> Result<(), Fail> {
     let alloc = rt.alloc();
     assert_eq!(rt;
         fault_behind(alloc, &NO_RECORDED_VALUE)?,
-        Some(RequestFault::NoRecordedValue(1))
+        Some(RequestReason::NoRecordedValue.at(1))
     );
     assert_eq!(rt;
         fault_behind(alloc, &UNKNOWN_START)?,
-        Some(RequestFault::UnknownStart(0))
+        Some(RequestReason::UnknownStart.at(0))
     );
     assert_eq!(rt;
         fault_behind(alloc, &DOUBLE)?,
-        Some(RequestFault::FloatValue(0))
+        Some(RequestReason::FloatValue.at(0))
     );
     assert_eq!(rt;
         fault_behind(alloc, &NO_VALUE)?,
-        Some(RequestFault::NoValue(0))
+        Some(RequestReason::NoValue.at(0))
     );
     assert_eq!(rt;
         fault_behind(alloc, &EMPTY_KEY)?,
-        Some(RequestFault::EmptyKey(0))
+        Some(RequestReason::EmptyKey.at(0))
     );
     assert_eq!(rt;
         fault_behind(alloc, &KEY_TWICE)?,
-        Some(RequestFault::AttributeTwice(0))
+        Some(RequestReason::AttributeTwice.at(0))
     );
     assert_eq!(rt;
         fault_behind(alloc, &DOUBLE_AS_ATTRIBUTE)?,
-        Some(RequestFault::AttributeValue(0))
+        Some(RequestReason::AttributeValue.at(0))
     );
     assert_eq!(rt;
         fault_behind(alloc, &POINT_TWICE)?,
-        Some(RequestFault::BadExport(0, ExportFault::KeyTwice(1)))
+        Some(RequestReason::BadExport(ExportFault::KeyTwice(1)).at(0))
     );
     Ok(())
 }
@@ -563,22 +569,25 @@ fn points_are_refused(rt: HostRuntime) -> Result<(), Fail> {
 #[test]
 fn histograms_are_refused(rt: HostRuntime) -> Result<(), Fail> {
     let alloc = rt.alloc();
-    assert_eq!(rt; fault_behind(alloc, &NO_SUM)?, Some(RequestFault::NoSum(0)));
+    assert_eq!(rt;
+        fault_behind(alloc, &NO_SUM)?,
+        Some(RequestReason::NoSum.at(0))
+    );
     assert_eq!(rt;
         fault_behind(alloc, &HALF_OF_ONE)?,
-        Some(RequestFault::NotWhole(0))
+        Some(RequestReason::NotWhole.at(0))
     );
     assert_eq!(rt;
         fault_behind(alloc, &TWO_TO_THE_53)?,
-        Some(RequestFault::Inexact(0))
+        Some(RequestReason::Inexact.at(0))
     );
     assert_eq!(rt;
         fault_behind(alloc, &FALLING_BOUNDS)?,
-        Some(RequestFault::BadBounds(0))
+        Some(RequestReason::BadBounds.at(0))
     );
     assert_eq!(rt;
         fault_behind(alloc, &HALF_A_RANGE)?,
-        Some(RequestFault::HalfRange(0))
+        Some(RequestReason::HalfRange.at(0))
     );
     Ok(())
 }

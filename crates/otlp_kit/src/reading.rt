@@ -1,11 +1,8 @@
 //! Points, metrics and scopes, one after another.
 ghost use Rattle.std.specs.Prelude.{◌≡◌, ◌≢◌, ◌+◌, ◌<◌, ◌%◌, ◌==◌, ◌&&◌, ◌||◌, ◌++◌, [], ◌∷◌, not, true, length, slice_get, map, Ok, Err, IfOk, IfErr, IfSome, OnOk};
-ghost use Rattle.otlp_kit.specs.Copies.{any_long};
-ghost use Rattle.otlp_kit.specs.Reading.{text_or_empty, or_zero, recorded, started, whole, number_placed, gauge_point, sum_point, histogram_point, histogram_payload, buckets_of, with_point, add_gauge_point, add_sum_point, add_histogram_point, cumulative, bounds_in, have_one_bounds, one_stream, few_points, named, add_data, add_metric, add_metrics, is_alike, differs, name_of, version_of, attributes_in, scope_name, is_other, add_scope, nothing_read};
+ghost use Rattle.otlp_kit.specs.Reading.{text_or_empty, or_zero, recorded, started, whole, number_placed, gauge_point, sum_point, histogram_point, histogram_payload, buckets_of, with_point, add_gauge_point, add_sum_point, add_histogram_point, cumulative, named, add_data, add_metric, add_metrics, is_alike, differs, name_of, version_of, attributes_in, scope_name, is_other, add_scope, nothing_read};
 ghost use Rattle.otlp_kit.specs.Walks.{walk};
 
-use crate::RequestFault;
-use crate::copies::{MOST_OF_A_LONG_TEXT, any_long, scope_held};
 use crate::exact::{bounds_of, range_of, sum_of};
 use crate::first_places::first_places;
 use crate::histogram_point::HistogramPoint;
@@ -15,6 +12,7 @@ use crate::number_point::{Number, NumberPoint};
 use crate::placed::Placed;
 use crate::point_attributes::attributes;
 use crate::scope::{Scope, ScopeMetrics};
+use crate::{RequestFault, RequestReason};
 use attr_kit::{NoMemory, Seq, TryCopy, Txt};
 use point_kit::{ExportPoint, Payload, Shape, SharedStream, Stream};
 use std::alloc::Global;
@@ -42,7 +40,7 @@ fn recorded(point: usize, flags: Option<u64>) -> Result<(), RequestFault>
     ensures { result ≡ recorded point flags }
 {
     if flags.unwrap_or(0) % 2 == 1 {
-        return Err(RequestFault::NoRecordedValue(point));
+        return Err(RequestReason::NoRecordedValue.at(point));
     }
     Ok(())
 }
@@ -51,7 +49,7 @@ fn started(point: usize, start: Option<u64>) -> Result<(), RequestFault>
     ensures { result ≡ started point start }
 {
     if start.unwrap_or(0) == 0 {
-        return Err(RequestFault::UnknownStart(point));
+        return Err(RequestReason::UnknownStart.at(point));
     }
     Ok(())
 }
@@ -61,8 +59,8 @@ fn whole(point: usize, value: &Option<Number>) -> Result<i64, RequestFault>
 {
     match value {
         Some(Number::Whole(bits)) => Ok(bits.cast_signed()),
-        Some(Number::Double) => Err(RequestFault::FloatValue(point)),
-        None => Err(RequestFault::NoValue(point)),
+        Some(Number::Double) => Err(RequestReason::FloatValue.at(point)),
+        None => Err(RequestReason::NoValue.at(point)),
     }
 }
 
@@ -76,7 +74,7 @@ fn number_placed(
     payload: Payload,
 ) -> Result<Placed, RequestFault>
     ensures ok { IfOk result (λ p. number_placed place stream.now said.now payload ≡ Ok p) }
-    ensures err { IfErr result (λ f. f ≢ RequestFault.NoMemory
+    ensures err { IfErr result (λ f. f.why ≢ RequestReason.NoMemory
         → number_placed place stream.now said.now payload ≡ Err f) }
 {
     let attrs = attributes(alloc, place, said.attributes.as_slice())?;
@@ -99,7 +97,7 @@ fn gauge_point(
     said: &NumberPoint,
 ) -> Result<Placed, RequestFault>
     ensures ok { IfOk result (λ p. gauge_point place stream.now said.now ≡ Ok p) }
-    ensures err { IfErr result (λ f. f ≢ RequestFault.NoMemory → gauge_point place stream.now said.now ≡ Err f) }
+    ensures err { IfErr result (λ f. f.why ≢ RequestReason.NoMemory → gauge_point place stream.now said.now ≡ Err f) }
 {
     recorded(place, said.flags)?;
     let value = whole(place, &said.value)?;
@@ -114,7 +112,7 @@ fn sum_point(
     said: &NumberPoint,
 ) -> Result<Placed, RequestFault>
     ensures ok { IfOk result (λ p. sum_point place stream.now said.now ≡ Ok p) }
-    ensures err { IfErr result (λ f. f ≢ RequestFault.NoMemory → sum_point place stream.now said.now ≡ Err f) }
+    ensures err { IfErr result (λ f. f.why ≢ RequestReason.NoMemory → sum_point place stream.now said.now ≡ Err f) }
 {
     recorded(place, said.flags)?;
     started(place, said.start)?;
@@ -142,7 +140,7 @@ fn histogram_payload(
     said: &HistogramPoint,
 ) -> Result<(Seq<i64>, Payload), RequestFault>
     ensures ok { IfOk result (λ p. histogram_payload place said.now ≡ Ok p) }
-    ensures err { IfErr result (λ f. f ≢ RequestFault.NoMemory → histogram_payload place said.now ≡ Err f) }
+    ensures err { IfErr result (λ f. f.why ≢ RequestReason.NoMemory → histogram_payload place said.now ≡ Err f) }
 {
     let sum = sum_of(place, said.sum)?;
     let bounds = bounds_of(alloc, place, said.bounds.as_slice())?;
@@ -169,7 +167,7 @@ fn histogram_point(
         ≡ named names.now.scope.now names.now.name.now names.now.unit.now p.point.stream.shape) }
     ensures ok { IfOk result (λ p. histogram_point place names.now.scope.now names.now.name.now names.now.unit.now said.now
         ≡ Ok p) }
-    ensures err { IfErr result (λ f. f ≢ RequestFault.NoMemory
+    ensures err { IfErr result (λ f. f.why ≢ RequestReason.NoMemory
         → histogram_point place names.now.scope.now names.now.name.now names.now.unit.now said.now ≡ Err f) }
 {
     recorded(place, said.flags)?;
@@ -185,23 +183,6 @@ fn histogram_point(
             payload,
         },
     })
-}
-
-fn first_bounds(points: &[HistogramPoint]) -> &[u64]
-    ensures { result.now ≡ bounds_in (slice_get points.now 0) }
-{
-    match points.get(0) {
-        Some(first) => first.bounds.as_slice(),
-        None => &[],
-    }
-}
-
-// Whether points of a histogram have the bounds of the first of them.
-fn have_one_bounds(points: &[HistogramPoint]) -> bool
-    ensures { result ≡ have_one_bounds points.now }
-{
-    let bounds = first_bounds(points);
-    points.iter().all(|point| point.bounds.as_slice() == bounds)
 }
 
 // Whether a stream has this shape.
@@ -260,32 +241,6 @@ impl<'a> Names<'a> {
         }
         self.stream(alloc, shape)
     }
-
-    fn has_long_text(&self) -> bool
-        ensures { result ≡ any_long self.now.scope.now self.now.name.now self.now.unit.now }
-    {
-        any_long(self.scope, self.name, self.unit)
-    }
-
-    // That so many points do not ask for a long text to be compared too often.
-    fn few_points(&self, count: usize) -> Result<(), RequestFault>
-        ensures { result ≡ few_points self.now.scope.now self.now.name.now self.now.unit.now count }
-    {
-        if self.has_long_text() && count > MOST_OF_A_LONG_TEXT {
-            return Err(RequestFault::Repeats);
-        }
-        Ok(())
-    }
-
-    // That points of a histogram do not ask for copies of a long text.
-    fn one_stream(&self, points: &[HistogramPoint]) -> Result<(), RequestFault>
-        ensures { result ≡ one_stream self.now.scope.now self.now.name.now self.now.unit.now points.now }
-    {
-        if self.has_long_text() && !have_one_bounds(points) {
-            return Err(RequestFault::Repeats);
-        }
-        Ok(())
-    }
 }
 
 // Sums and histograms must be cumulative.
@@ -293,9 +248,9 @@ fn cumulative(metric: usize, temporality: Option<u64>) -> Result<(), RequestFaul
     ensures { result ≡ cumulative metric temporality }
 {
     match temporality.unwrap_or(0) {
-        1 => Err(RequestFault::Delta(metric)),
+        1 => Err(RequestReason::Delta.at(metric)),
         2 => Ok(()),
-        _ => Err(RequestFault::NoTemporality(metric)),
+        _ => Err(RequestReason::NoTemporality.at(metric)),
     }
 }
 
@@ -328,7 +283,7 @@ impl Reading {
         points: &[NumberPoint],
     ) -> Result<(), RequestFault>
         ensures ok { OnOk result (walk (add_gauge_point stream.now) self.old points.now ≡ Ok self.new) }
-        ensures err { IfErr result (λ f. f ≢ RequestFault.NoMemory
+        ensures err { IfErr result (λ f. f.why ≢ RequestReason.NoMemory
             → walk (add_gauge_point stream.now) self.old points.now ≡ Err f) }
     {
         for point in points {
@@ -346,7 +301,7 @@ impl Reading {
         points: &[NumberPoint],
     ) -> Result<(), RequestFault>
         ensures ok { OnOk result (walk (add_sum_point stream.now) self.old points.now ≡ Ok self.new) }
-        ensures err { IfErr result (λ f. f ≢ RequestFault.NoMemory
+        ensures err { IfErr result (λ f. f.why ≢ RequestReason.NoMemory
             → walk (add_sum_point stream.now) self.old points.now ≡ Err f) }
     {
         for point in points {
@@ -365,7 +320,7 @@ impl Reading {
     ) -> Result<(), RequestFault>
         ensures ok { OnOk result (walk (add_histogram_point names.now.scope.now names.now.name.now names.now.unit.now) self.old points.now
             ≡ Ok self.new) }
-        ensures err { IfErr result (λ f. f ≢ RequestFault.NoMemory
+        ensures err { IfErr result (λ f. f.why ≢ RequestReason.NoMemory
             → walk (add_histogram_point names.now.scope.now names.now.name.now names.now.unit.now) self.old points.now ≡ Err f) }
     {
         let mut last = None;
@@ -379,7 +334,7 @@ impl Reading {
 
     fn add_data(&mut self, alloc: Global, scope: &str, metric: &Metric) -> Result<(), RequestFault>
         ensures ok { OnOk result (add_data scope.now metric.now self.old metric.now.kind ≡ Ok self.new) }
-        ensures err { IfErr result (λ f. f ≢ RequestFault.NoMemory
+        ensures err { IfErr result (λ f. f.why ≢ RequestReason.NoMemory
             → add_data scope.now metric.now self.old metric.now.kind ≡ Err f) }
     {
         let names = Names {
@@ -389,32 +344,28 @@ impl Reading {
         };
         match &metric.kind {
             Some(Data::Gauge(gauge)) => {
-                names.few_points(gauge.points.len())?;
                 let stream = names.stream(alloc, Shape::Gauge)?;
                 self.add_gauge(alloc, &stream, gauge.points.as_slice())
             }
             Some(Data::Sum(sum)) => {
                 cumulative(self.metrics, sum.temporality)?;
-                names.few_points(sum.points.len())?;
                 let monotonic = sum.monotonic.unwrap_or(0) != 0;
                 let stream = names.stream(alloc, Shape::Sum { monotonic })?;
                 self.add_sum(alloc, &stream, sum.points.as_slice())
             }
             Some(Data::Histogram(histogram)) => {
                 cumulative(self.metrics, histogram.temporality)?;
-                names.few_points(histogram.points.len())?;
-                names.one_stream(histogram.points.as_slice())?;
                 self.add_histogram(alloc, &names, histogram.points.as_slice())
             }
             Some(Data::ExponentialHistogram) => {
-                Err(RequestFault::ExponentialHistogram(self.metrics))
+                Err(RequestReason::ExponentialHistogram.at(self.metrics))
             }
-            Some(Data::Summary) => Err(RequestFault::Summary(self.metrics)),
-            None => Err(RequestFault::NoData(self.metrics)),
+            Some(Data::Summary) => Err(RequestReason::Summary.at(self.metrics)),
+            None => Err(RequestReason::NoData.at(self.metrics)),
         }
     }
 
-    #[tactic(auto, unfolding(crate::specs::Reading::add_metrics, crate::specs::Reading::add_metric, crate::specs::Walks::walk))]
+    #[tactic(auto, unfolding(crate::specs::Reading::add_metric, crate::specs::Walks::walk))]
     fn add_metrics(
         &mut self,
         alloc: Global,
@@ -422,10 +373,9 @@ impl Reading {
         metrics: &[Metric],
     ) -> Result<(), RequestFault>
         ensures ok { OnOk result (add_metrics scope.now self.old metrics.now ≡ Ok self.new) }
-        ensures err { IfErr result (λ f. f ≢ RequestFault.NoMemory
+        ensures err { IfErr result (λ f. f.why ≢ RequestReason.NoMemory
             → add_metrics scope.now self.old metrics.now ≡ Err f) }
     {
-        scope_held(scope, metrics)?;
         for metric in metrics {
             self.add_data(alloc, scope, metric)?;
             self.metrics = next(self.metrics)?;
@@ -441,7 +391,7 @@ impl Reading {
         scopes: &[ScopeMetrics],
     ) -> Result<(), RequestFault>
         ensures ok { OnOk result (walk (add_scope scopes.now) self.old scopes.now ≡ Ok self.new) }
-        ensures err { IfErr result (λ f. f ≢ RequestFault.NoMemory
+        ensures err { IfErr result (λ f. f.why ≢ RequestReason.NoMemory
             → walk (add_scope scopes.now) self.old scopes.now ≡ Err f) }
     {
         let names = scope_names(alloc, scopes)?;
@@ -449,7 +399,7 @@ impl Reading {
         for place in 0..scopes.len() {
             let scope = &scopes[place];
             if differs(scopes, firsts[place], scope) {
-                return Err(RequestFault::ScopeTwice(self.scopes));
+                return Err(RequestReason::ScopeTwice.at(self.scopes));
             }
             self.add_metrics(alloc, scope_name(scope), scope.metrics.as_slice())?;
             self.scopes = next(self.scopes)?;

@@ -1,115 +1,149 @@
 //! Why bytes are no request that can be read.
 ghost use Rattle.std.specs.Prelude.{◌≡◌};
+ghost use Rattle.otlp_kit.specs.Fields.{refused};
 
 use attr_kit::NoMemory;
 use point_kit::ExportFault;
 use std::alloc::AllocError;
+use std::fmt;
 use thiserror::Error;
 
-/// Why a request is not read, in the order in which it is looked for. Of [`RequestFault::Malformed`] and
-/// [`RequestFault::NotText`] the place is a byte's; of the others it is that of a message among all of its kind in the
-/// request. Both are counted from 0. [`RequestFault::Repeats`] has none.
-#[derive(Clone, Copy, Debug, PartialEq, Eq, Error)]
-pub enum RequestFault {
+/// Why a request is not read, in the order in which it is looked for: of one histogram the sum first, then that its bounds rise, then
+/// its least and greatest value, whatever the order here.
+#[derive(Clone, Copy, Debug, PartialEq, Eq)]
+pub enum RequestReason {
     /// The bytes from this place on are no field, or one that its message does not have so: of another wire type, or a
     /// second one of a field that is not repeated.
-    #[error("byte {0} begins no field that can stand there")]
-    Malformed(usize),
+    Malformed,
     /// The text that begins at this place is not UTF-8.
-    #[error("the text at byte {0} is not UTF-8")]
-    NotText(usize),
+    NotText,
+    /// The field that begins at this place has a text of more than 1,024 bytes: a service, the name of a scope or a metric, or
+    /// a unit.
+    TooLongText,
     /// The resource has not exactly one `service.name`, or no text there.
-    #[error("resource {0} names no service")]
-    NoService(usize),
+    NoService,
     /// The resource has not exactly one `service.instance.id`, or no text there.
-    #[error("resource {0} names no instance")]
-    NoInstance(usize),
+    NoInstance,
     /// The `service.instance.id` of the resource is no UUID in its form with hyphens.
-    #[error("the instance of resource {0} is no UUID")]
-    NotUuid(usize),
+    NotUuid,
     /// An earlier scope of this resource has the same name, and another version or other attributes.
-    #[error("scope {0} comes in two versions")]
-    ScopeTwice(usize),
+    ScopeTwice,
     /// The metric is an exponential histogram.
-    #[error("metric {0} is an exponential histogram")]
-    ExponentialHistogram(usize),
+    ExponentialHistogram,
     /// The metric is a summary.
-    #[error("metric {0} is a summary")]
-    Summary(usize),
+    Summary,
     /// The metric is neither a sum nor a gauge nor a histogram.
-    #[error("metric {0} has no data")]
-    NoData(usize),
+    NoData,
     /// The sum or histogram is told as deltas.
-    #[error("metric {0} is told as deltas")]
-    Delta(usize),
+    Delta,
     /// The sum or histogram is not said to be cumulative.
-    #[error("metric {0} has no temporality")]
-    NoTemporality(usize),
+    NoTemporality,
     /// The point has no recorded value.
-    #[error("point {0} has no recorded value")]
-    NoRecordedValue(usize),
+    NoRecordedValue,
     /// The start of the point of a sum or histogram is 0, which stands for unknown.
-    #[error("the start of point {0} is not known")]
-    UnknownStart(usize),
+    UnknownStart,
     /// The value of the point is a double.
-    #[error("the value of point {0} is a double")]
-    FloatValue(usize),
+    FloatValue,
     /// The point has no value.
-    #[error("point {0} has no value")]
-    NoValue(usize),
+    NoValue,
     /// The histogram has no sum.
-    #[error("point {0} has no sum")]
-    NoSum(usize),
+    NoSum,
     /// A double of the histogram is no whole number.
-    #[error("a double of point {0} is no whole number")]
-    NotWhole(usize),
+    NotWhole,
     /// A double of the histogram is 2^53 or more in size, so that it may stand for another whole number.
-    #[error("a double of point {0} is not exact")]
-    Inexact(usize),
+    Inexact,
     /// The bounds of the histogram do not strictly rise.
-    #[error("the bounds of point {0} do not rise")]
-    BadBounds(usize),
+    BadBounds,
     /// The histogram has a least value or a greatest, and not the other.
-    #[error("point {0} has half a range")]
-    HalfRange(usize),
+    HalfRange,
+    /// The point has more than 128 attributes.
+    TooManyAttributes,
     /// An attribute of the point has no key.
-    #[error("an attribute of point {0} has no key")]
-    EmptyKey(usize),
+    EmptyKey,
     /// Two attributes of the point have one key.
-    #[error("two attributes of point {0} have one key")]
-    AttributeTwice(usize),
+    AttributeTwice,
     /// The value of an attribute of the point is neither a text nor a truth nor a whole number.
-    #[error("an attribute of point {0} has another value")]
-    AttributeValue(usize),
-    /// A text of more than 1,024 bytes stands for too much. A scope of such a name has more than 64 points, where a metric
-    /// without points counts as one; a metric of such a name or unit has more than 64; a service of such a name has more than
-    /// 64 exports; or points of a histogram differ in their bounds where its scope, name or unit has more than 1,024 bytes.
-    #[error("a text of more than 1024 bytes is repeated too often")]
-    Repeats,
-    /// The points of one resource, start and time make no export: its place among those that are read, and why.
-    #[error("export {0}: {1}")]
-    BadExport(usize, ExportFault),
-    /// Memory was refused.
-    #[error("no memory")]
+    AttributeValue,
+    /// The points of one resource, start and time make no export, for this reason. The place is that of the export among those
+    /// that are read.
+    BadExport(ExportFault),
+    /// Memory was refused. The place is 0.
     NoMemory,
 }
 
-impl From<NoMemory> for RequestFault {
-    ghost use Rattle.otlp_kit.specs.declared.request_fault.RequestFault.TheVariants as faults;
+/// Why a request is not read, and where: of [`RequestReason::Malformed`], [`RequestReason::NotText`] and
+/// [`RequestReason::TooLongText`] the place is a byte's, of the others that of a message among all of its kind in the request.
+/// Both are counted from 0.
+#[derive(Clone, Copy, Debug, PartialEq, Eq, Error)]
+pub struct RequestFault {
+    pub why: RequestReason,
+    pub place: usize,
+}
 
-    ghost from_gives = { λ _ e. e ≡ faults.NoMemory };
+impl RequestReason {
+    /// A refusal at a place.
+    pub(crate) fn at(self, place: usize) -> RequestFault
+        ensures { result ≡ refused self place }
+    {
+        RequestFault { why: self, place }
+    }
+
+    // Writes what this says at a place.
+    fn tell<W: fmt::Write>(self, at: usize, f: &mut fmt::Formatter<W>) -> fmt::Result {
+        match self {
+            Self::Malformed => write!(f, "byte {at} begins no field that can stand there"),
+            Self::NotText => write!(f, "the text at byte {at} is not UTF-8"),
+            Self::TooLongText => write!(f, "a text at byte {at} has more than 1024 bytes"),
+            Self::NoService => write!(f, "resource {at} names no service"),
+            Self::NoInstance => write!(f, "resource {at} names no instance"),
+            Self::NotUuid => write!(f, "the instance of resource {at} is no UUID"),
+            Self::ScopeTwice => write!(f, "scope {at} comes in two versions"),
+            Self::ExponentialHistogram => write!(f, "metric {at} is an exponential histogram"),
+            Self::Summary => write!(f, "metric {at} is a summary"),
+            Self::NoData => write!(f, "metric {at} has no data"),
+            Self::Delta => write!(f, "metric {at} is told as deltas"),
+            Self::NoTemporality => write!(f, "metric {at} has no temporality"),
+            Self::NoRecordedValue => write!(f, "point {at} has no recorded value"),
+            Self::UnknownStart => write!(f, "the start of point {at} is not known"),
+            Self::FloatValue => write!(f, "the value of point {at} is a double"),
+            Self::NoValue => write!(f, "point {at} has no value"),
+            Self::NoSum => write!(f, "point {at} has no sum"),
+            Self::NotWhole => write!(f, "a double of point {at} is no whole number"),
+            Self::Inexact => write!(f, "a double of point {at} is not exact"),
+            Self::BadBounds => write!(f, "the bounds of point {at} do not rise"),
+            Self::HalfRange => write!(f, "point {at} has half a range"),
+            Self::TooManyAttributes => write!(f, "point {at} has more than 128 attributes"),
+            Self::EmptyKey => write!(f, "an attribute of point {at} has no key"),
+            Self::AttributeTwice => write!(f, "two attributes of point {at} have one key"),
+            Self::AttributeValue => write!(f, "an attribute of point {at} has another value"),
+            Self::BadExport(fault) => write!(f, "export {at}: {fault}"),
+            Self::NoMemory => write!(f, "no memory"),
+        }
+    }
+}
+
+impl fmt::Display for RequestFault {
+    fn fmt<W: fmt::Write>(&self, f: &mut fmt::Formatter<W>) -> fmt::Result {
+        self.why.tell(self.place, f)
+    }
+}
+
+impl From<NoMemory> for RequestFault {
+    ghost use Rattle.otlp_kit.specs.declared.request_fault.RequestReason.TheVariants as reasons;
+
+    ghost from_gives = { λ _ e. e ≡ refused reasons.NoMemory 0 };
 
     fn from(_error: NoMemory) -> RequestFault {
-        RequestFault::NoMemory
+        RequestReason::NoMemory.at(0)
     }
 }
 
 impl From<AllocError> for RequestFault {
-    ghost use Rattle.otlp_kit.specs.declared.request_fault.RequestFault.TheVariants as faults;
+    ghost use Rattle.otlp_kit.specs.declared.request_fault.RequestReason.TheVariants as reasons;
 
-    ghost from_gives = { λ _ e. e ≡ faults.NoMemory };
+    ghost from_gives = { λ _ e. e ≡ refused reasons.NoMemory 0 };
 
     fn from(_error: AllocError) -> RequestFault {
-        RequestFault::NoMemory
+        RequestReason::NoMemory.at(0)
     }
 }

@@ -1,15 +1,40 @@
 //! Resource, ResourceMetrics and the whole request.
 ghost use Rattle.std.specs.Prelude.{◌≡◌, ◌≢◌, Ok, Err, IfErr, OnOk};
-ghost use Rattle.otlp_kit.specs.Messages.{no_resource, resource_step, no_resource_metrics, resource_metrics_step, no_request, request_step};
+ghost use Rattle.otlp_kit.specs.Messages.{value_text, service_text, no_resource, resource_step, no_resource_metrics, resource_metrics_step, no_request, request_step};
 
 use crate::RequestFault;
 use crate::field::Field;
-use crate::key_value::KeyValue;
+use crate::key_value::{AnyContent, AnyValue, KeyValue};
 use crate::lists::push;
 use crate::message::{Message, read};
+use crate::point_attributes::key_of;
 use crate::scope::ScopeMetrics;
 use attr_kit::Seq;
 use std::alloc::Global;
+
+fn value_text(value: &Option<AnyValue>) -> &str
+    ensures { result.now ≡ value_text value.now }
+{
+    match value {
+        Some(
+            AnyValue {
+                content: Some(AnyContent::Text(text)),
+            },
+        ) => text.as_str(),
+        _ => "",
+    }
+}
+
+// The service that an attribute names, if it does.
+fn service_text(attribute: &KeyValue) -> &str
+    ensures { result.now ≡ service_text attribute.now }
+{
+    if key_of(attribute) == "service.name" {
+        value_text(&attribute.value)
+    } else {
+        ""
+    }
+}
 
 #[derive(Drop)]
 pub(crate) struct Resource {
@@ -31,6 +56,7 @@ impl Message for Resource {
     fn take(&mut self, alloc: Global, field: &Field<'_>) -> Result<(), RequestFault> {
         if field.number == 1 {
             let attribute = read::<KeyValue>(alloc, &field.block()?)?;
+            field.fits(service_text(&attribute))?;
             push(alloc, &mut self.attributes, attribute)?;
         }
         Ok(())

@@ -35,7 +35,7 @@ impl Message for Scope {
     #[tactic(auto, unfolding(crate::specs::Messages::scope_step))]
     fn take(&mut self, alloc: Global, field: &Field<'_>) -> Result<(), RequestFault> {
         match field.number {
-            1 => self.name = Some(field.text(alloc, &self.name)?),
+            1 => self.name = Some(field.name(alloc, &self.name)?),
             2 => self.version = Some(field.text(alloc, &self.version)?),
             3 => {
                 let block = field.block()?;

@@ -93,14 +93,14 @@ fn text(alloc: Global, bytes: &str) -> Result<Txt, NoMemory> {
     Txt::from_str(alloc, bytes)
 }
 
-fn writer(alloc: Global, service: &str) -> Result<WriterId, NoMemory> {
+pub(crate) fn writer(alloc: Global, service: &str) -> Result<WriterId, NoMemory> {
     Ok(WriterId {
         service: text(alloc, service)?,
         instance: Uuid::from_u128(1),
     })
 }
 
-fn export(alloc: Global, points: Vec<ExportPoint>) -> Result<Export, Fail> {
+pub(crate) fn export(alloc: Global, points: Vec<ExportPoint>) -> Result<Export, Fail> {
     let writer = writer(alloc, "shop")?;
     Ok(Export::build(alloc, writer, 100, 200, Seq::from_vec(points))?)
 }

@@ -5,10 +5,10 @@ ghost use Rattle.otlp_kit.specs.Reading.{has_key, alone, text_in, text_under, re
 ghost use Rattle.std.specs.List.{list_any, position};
 ghost use Rattle.std.specs.Option.{option_copied};
 
-use crate::RequestFault;
 use crate::key_value::{AnyContent, AnyValue, KeyValue};
-use crate::point_attributes::key_of;
+use crate::point_attributes::{has_key, has_one_of};
 use crate::resource::Resource;
+use crate::{RequestFault, RequestReason};
 use attr_kit::Txt;
 use point_kit::WriterId;
 use uuid::Uuid;
@@ -26,24 +26,12 @@ fn text_of(attribute: &KeyValue) -> Option<&Txt>
     }
 }
 
-fn has_key(attribute: &KeyValue, key: &str) -> bool
-    ensures { result ≡ has_key key.now attribute.now }
-{
-    key_of(attribute) == key
-}
-
 fn first_of(attributes: &[KeyValue], key: &str) -> Option<usize>
     ensures { result ≡ position (has_key key.now) attributes.now }
 {
     attributes
         .iter()
         .position(|attribute| has_key(attribute, key))
-}
-
-fn has_one_of(attributes: &[KeyValue], key: &str) -> bool
-    ensures { result ≡ list_any (has_key key.now) attributes.now }
-{
-    attributes.iter().any(|attribute| has_key(attribute, key))
 }
 
 // The place of the only attribute of a key.
@@ -95,19 +83,19 @@ fn instance_of(text: &str) -> Option<Uuid>
 #[tactic(auto, unfolding(crate::specs::Reading::writer_of))]
 pub(crate) fn writer_of(place: usize, attributes: &[KeyValue]) -> Result<WriterId, RequestFault>
     ensures ok { IfOk result (λ writer. writer_of place attributes.now ≡ Ok writer) }
-    ensures err { IfErr result (λ f. f ≢ RequestFault.NoMemory → writer_of place attributes.now ≡ Err f) }
+    ensures err { IfErr result (λ f. f.why ≢ RequestReason.NoMemory → writer_of place attributes.now ≡ Err f) }
 {
     let Some(service) = text_under(attributes, "service.name") else {
-        return Err(RequestFault::NoService(place));
+        return Err(RequestReason::NoService.at(place));
     };
     let Some(text) = text_under(attributes, "service.instance.id") else {
-        return Err(RequestFault::NoInstance(place));
+        return Err(RequestReason::NoInstance.at(place));
     };
     match instance_of(text.as_str()) {
         Some(instance) => Ok(WriterId {
             service: service.try_copy()?,
             instance,
         }),
-        None => Err(RequestFault::NotUuid(place)),
+        None => Err(RequestReason::NotUuid.at(place)),
     }
 }

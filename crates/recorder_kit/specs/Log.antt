@@ -28,7 +28,7 @@ abbrev pub early_fault_at : Tallied → Recording → Option TallyFault
 early_fault_at t (ByName e) = early_fault_of t e
 early_fault_at t (ByNumber n v) = early_held_fault_of t n v
 
--- no recording like this one takes memory: its points are there, and all keys are kept
+-- no recording like this one takes memory: its points are there, and no feed copies what it keeps of the set
 abbrev pub TakesNoMemory : Tallied → Recording → Type 0
 TakesNoMemory t (ByName e) = IsHeld t e
 TakesNoMemory t (ByNumber n v) = IsHeldAt t n

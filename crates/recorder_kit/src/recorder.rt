@@ -16,6 +16,9 @@ use std::alloc::Global;
 use std::marker::Model;
 
 /// A log of recordings, up to a capacity: a thread's own, to be given to a tally that others record in too.
+///
+/// A log is given in its order, and of several logs one after the other, whenever their recordings were noted. So a gauge that threads
+/// set in turn shows the last value of the log that was given last: such a gauge is recorded at the tally itself.
 #[derive(Drop)]
 pub struct Recorder {
     log: Vec<Line>,
@@ -114,7 +117,8 @@ impl Recorder {
         ensures full { IfErr result (λ f. f ≡ faults.Full → self.old.capacity ≤ length self.old.log) }
         ensures no_memory { IfErr result (λ f. f ≡ faults.NoMemory → length self.old.log < self.old.capacity) }
         // What a recording of the log names takes none.
-        ensures known { (v : ℤ) → Contains self.old.log (ByName (entry_of instrument attrs.now v)) → IfErr result (λ f. f ≢ faults.NoMemory) }
+        ensures known { (v : ℤ) → Contains self.old.log (ByName (entry_of instrument attrs.now v))
+            → IfErr result (λ f. f ≢ faults.NoMemory) }
         ensures unchanged { OnErr result (self.new ≡ self.old) }
     {
         if self.log.len() - self.given >= self.capacity {

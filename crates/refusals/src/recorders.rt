@@ -1,11 +1,14 @@
 //! Calls at held points, and of recorders.
 use crate::same::are_same_tallies;
-use crate::start::{plan, set};
+use crate::start::{instruments, plan, renamed, set};
 use crate::tallies::holding;
 use crate::telling::{call_begins, call_ends, state, tell_made, tell_twice};
 use agg_kit::Tally;
+use attr_kit::Seq;
+use plan_kit::{DEFAULT_LIMIT, Plan};
 use recorder_kit::Recorder;
 use std::alloc::Global;
+use test_kit::view;
 
 // A recorder that has noted a size under the first set, and has room for more.
 fn noting(alloc: Global) -> anyhow::Result<Recorder> {
@@ -26,9 +29,27 @@ fn hold(rt: &HostRuntime) -> anyhow::Result<()> {
     tell_twice(rt, &answer, left, &again)
 }
 
+// A tally whose first instrument has two feeds, which keep all keys, and that holds the first set in both.
+fn holding_twice(alloc: Global) -> anyhow::Result<Tally> {
+    let views = vec![in alloc; view(alloc, "requests")?, renamed(alloc)?]?;
+    let plan = Plan::build(
+        alloc,
+        instruments(alloc)?,
+        Seq::from_vec(views),
+        DEFAULT_LIMIT,
+    )?;
+    let mut tally = Tally::new(alloc, plan)?;
+    tally.measure(0, &set(alloc, 1)?, 3)?;
+    Ok(tally)
+}
+
 // A recording at a held point of an instrument and a set.
-fn measure_held(rt: &HostRuntime, instrument: usize, shard: i64) -> anyhow::Result<()> {
-    let mut tally = holding(rt.alloc())?;
+fn measure_held(
+    rt: &HostRuntime,
+    mut tally: Tally,
+    instrument: usize,
+    shard: i64,
+) -> anyhow::Result<()> {
     let number = tally.hold(instrument, &set(rt.alloc(), shard)?)?;
     let before = tally.try_copy()?;
     call_begins(rt);
@@ -90,11 +111,14 @@ fn give_to(rt: &HostRuntime) -> anyhow::Result<()> {
 
 /// Makes a call at a held point or of a recorder, if this is the name of one.
 pub fn make_call(rt: &HostRuntime, call: &str) -> anyhow::Result<bool> {
+    let alloc = rt.alloc();
     match call {
         "Tally::hold" => hold(rt)?,
-        "Tally::measure_held, two feeds" => measure_held(rt, 0, 2)?,
-        "Tally::measure_held, one feed" => measure_held(rt, 1, 2)?,
-        "Tally::measure_held, a held set" => measure_held(rt, 1, 1)?,
+        "Tally::measure_held, two feeds" => measure_held(rt, holding_twice(alloc)?, 0, 2)?,
+        "Tally::measure_held, one feed" => measure_held(rt, holding(alloc)?, 1, 2)?,
+        "Tally::measure_held, a list of keys" => measure_held(rt, holding(alloc)?, 0, 2)?,
+        "Tally::measure_held, a held set" => measure_held(rt, holding(alloc)?, 1, 1)?,
+        "Tally::measure_held, a set held twice" => measure_held(rt, holding_twice(alloc)?, 0, 1)?,
         "Recorder::new" => new(rt)?,
         "Recorder::measure, a new set" => measure(rt, 2)?,
         "Recorder::measure, a noted set" => measure(rt, 1)?,

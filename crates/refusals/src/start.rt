@@ -49,9 +49,14 @@ pub fn instruments(alloc: Global) -> anyhow::Result<Seq<Instrument>> {
 pub fn views(alloc: Global) -> anyhow::Result<Seq<View>> {
     let mut by_route = view(alloc, "requests")?;
     by_route.keep = route(alloc)?;
+    Ok(Seq::from_vec(vec![in alloc; by_route, renamed(alloc)?]?))
+}
+
+/// All requests under a long name.
+pub fn renamed(alloc: Global) -> anyhow::Result<View> {
     let mut renamed = view(alloc, "requests")?;
     renamed.rename = Some(Txt::from_str(alloc, LONG)?);
-    Ok(Seq::from_vec(vec![in alloc; by_route, renamed]?))
+    Ok(renamed)
 }
 
 /// The plan of these: two streams of requests, and one of sizes.

@@ -1,4 +1,4 @@
-//! The grammar of a script: bytes to lines, lines to words, words to what a line asks for. docs/SCRIPTS.md tells each line.
+//! The grammar of a script: bytes to lines, lines to words, words to what a line asks for. docs/use/SCRIPTS.md tells each line.
 //!
 //! - [`read_script`] reads an input of at most [`MAX_BYTES`] bytes, [`first_line`] cuts its lines off, and [`write_text`] writes an answer.
 //! - [`parse_line`] reads a [`Line`]: a [`Declaration`], `begin`, a [`Command`], a [`Query`] or nothing. Else a [`Stop`] says why

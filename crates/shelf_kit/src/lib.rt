@@ -15,6 +15,14 @@
 //! at most 256 values where there was memory for another one. One that is too full is cut in half, and the last shelf of a list is left
 //! full. So n values that only came stand on some n / 256 to n / 128 shelves. Shelves are not joined again where values go; one without
 //! values goes itself.
+//!
+//! No clause counts steps, so what is said of costs is said in words alone. Two more things are, on which costs rest:
+//!
+//! - A bound is no higher than what it came with or was raised to. Clauses let it be: [`Shelves::next_above`] would then find more than
+//!   has changed, and a caller that looks at all that it finds would look at each value.
+//! - [`Shelves::run`] lends as many values as its page says. Clauses let it lend one: a caller would then ask again at each value.
+//!
+//! No answer would be wrong by either.
 #![tactic(auto)]
 
 mod part;

@@ -1,8 +1,9 @@
 //! Callers of the kit, each proved: what a service, a reader and a gateway write.
 //!
-//! Each is short, and states as its own contract what it gets from the kit. Each public type of the kit is in one. docs/GUIDE.md tells
+//! Each is short, and states as its own contract what it gets from the kit. Each public type of the kit is in one. docs/use/GUIDE.md tells
 //! of them in this order:
 //!
+//! - The whole, as a program: `first`.
 //! - A service: `recording` (measure, collect, export), `attributing` (attributes), `refusing` (what a refusal leaves), `holding` (a set
 //!   that is looked up once), `viewing` (views and the limit), `taking_in` (a recorder that a writer takes in), `pushing` (periodic
 //!   readers: with an exporter of one's own, into memory, over a channel, and over one that fails when told).
@@ -18,6 +19,7 @@
 pub mod archiving;
 pub mod attributing;
 pub mod commanding;
+pub mod first;
 pub mod fleets;
 pub mod forgetting;
 pub mod gathering;

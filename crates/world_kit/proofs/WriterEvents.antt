@@ -11,7 +11,7 @@ use Rattle.agg_kit.specs.declared.fault.TallyFault.{TallyFault}
 use Rattle.agg_kit.specs.Entries.{Entry}
 use Rattle.agg_kit.specs.declared.fault.TallyFault.TheVariants as tally
 use Rattle.agg_kit.proofs.Rounds.{stands-push}
-use Rattle.agg_kit.specs.Feeds.{AllWhole, whole_first}
+use Rattle.agg_kit.specs.Feeds.{NoneCopies, early_feeds}
 use Rattle.agg_kit.specs.Measuring.{after_measure, early_fault_of, is_over}
 use Rattle.agg_kit.specs.Refusals.{is_negative_for, overflows, first_refusal}
 use Rattle.agg_kit.specs.Rounds.{StandsFor, round}
@@ -174,7 +174,7 @@ overflow_alone : (t : Tallied) (h : List Entry) (e : Entry) (f : TallyFault) →
 unfolding first_refusal early_fault_of
 overflow_alone t h e f none some =
     out_alone (is_none (kind_of t.plan e.instrument)) (is_negative_for (kind_of t.plan e.instrument) e.value) (find (overflows t.plan (h ++ e ∷ []) e.attrs) (feeds_of t.plan e.instrument))
-    (option_map (λ g. tally.Overflow g.stream) (find (is_over (after_measure t e) e.attrs) (whole_first (feeds_of t.plan e.instrument)))) f none some
+    (option_map (λ g. tally.Overflow g.stream) (find (is_over (after_measure t e) e.attrs) (early_feeds e.attrs (feeds_of t.plan e.instrument)))) f none some
 
 none_some : {A : Type 0} (o : Option A) (a : A) → o ≡ None → o ≡ Some a → ⊥
 none_some o a none some = cc
@@ -228,9 +228,9 @@ module _ (w : WorldState) (v : ℕ) (x : Written) (at_v : slice_get w.writers v 
         let there = here in
         let comes : judgement s ds (event.Measure v i a val) ≡ unless (option_and_then refusal_of (first_refusal x.tally.plan h e)) (Ok d) =
         written_there s v _ (omega arith) ∙ guard_true _ refusal.Closed _ is ∙ ap (λ (p : Planned). unless (option_and_then refusal_of (first_refusal p h e)) (Ok d)) (sym stands.plan) in
-        let takes : (m : ℕ) → first_refusal x.tally.plan h e ≡ Some (tally.Overflow m) → AllWhole (feeds_of (writer_at s v).plan i) → ⊥ = λ m out all.
-        let whole : AllWhole (feeds_of x.tally.plan i) = subst (λ (p : Planned). AllWhole (feeds_of p i)) (sym stands.plan) all in
-        let none = (measure_none x.closed (first_refusal x.tally.plan h e) (sym (now_is x h e stands.tally) ∙ sym (early_is x e whole) ∙ early)).1 in
+        let takes : (m : ℕ) → first_refusal x.tally.plan h e ≡ Some (tally.Overflow m) → NoneCopies a (feeds_of (writer_at s v).plan i) → ⊥ = λ m out all.
+        let none-copies : NoneCopies a (feeds_of x.tally.plan i) = subst (λ (p : Planned). NoneCopies a (feeds_of p i)) (sym stands.plan) all in
+        let none = (measure_none x.closed (first_refusal x.tally.plan h e) (sym (now_is x h e stands.tally) ∙ sym (early_is x e none-copies) ∙ early)).1 in
         none_some (first_refusal x.tally.plan h e) (tally.Overflow m) none out in
         subst (λ (j : Result (Deed Entry) Refusal). IfErr j (TakesMemory s (event.Measure v i a val))) (sym comes)
         (elim (first_refusal x.tally.plan h e) as (λ o. first_refusal x.tally.plan h e ≡ o → IfErr (unless (option_and_then refusal_of o) (Ok d)) (TakesMemory s (event.Measure v i a val))) [

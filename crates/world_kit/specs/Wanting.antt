@@ -2,7 +2,7 @@
 use Rattle.std.specs.Prelude.{◌≡◌, ◌⊎◌, [], slice_get, Option, None, Some, IfErr}
 use Rattle.std.specs.FinMap.{empty}
 use Rattle.agg_kit.specs.Entries.{Entry, entry_of}
-use Rattle.agg_kit.specs.Feeds.{AllWhole}
+use Rattle.agg_kit.specs.Feeds.{NoneCopies}
 use Rattle.gossip_kit.specs.Views.{NodeModel}
 use Rattle.plan_kit.specs.Plans.{feeds_of}
 use Rattle.point_kit.specs.declared.export.Export.{Export}
@@ -21,16 +21,16 @@ use Rattle.world_kit.specs.Setups.{writer_at}
 use Rattle.world_kit.specs.Stands.{Stands}
 use Rattle.writer_kit.specs.Written.{Written}
 
--- a refusal that takes memory to find: an overflow, where a feed of the instrument keeps a list of keys
+-- a refusal that takes memory to find: an overflow, where a feed of the instrument copies what it keeps of the set
 abbrev pub TakesMemory : Setup → Event → Refusal → Type 0
-TakesMemory s (event.Measure w i a v) (Overflow stream) = AllWhole (feeds_of (writer_at s w).plan i) → ⊥
+TakesMemory s (event.Measure w i a v) (Overflow stream) = NoneCopies a (feeds_of (writer_at s w).plan i) → ⊥
 TakesMemory s _ _ = ⊥
 
 -- an event that wants memory is not refused, but for a refusal that takes memory to find
 pub record Wants (event : Event) (w : WorldState) : Type 0 where
   pub accepted : (s : Setup) (ds : Deeds) → Stands s ds w → IfErr (judgement s ds event) (TakesMemory s event)
 
--- there is a writer that has the points of a recording, and each feed of the instrument keeps all keys
+-- there is a writer that has the points of a recording, and no feed of the instrument copies what it keeps of the set
 abbrev pub HasPoints : Entry → Option Written → Type 0
 HasPoints e None = ⊥
 HasPoints e (Some w) = log.TakesNoMemory w.tally (ByName e)

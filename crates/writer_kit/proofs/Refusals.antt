@@ -6,7 +6,7 @@ use Rattle.std.proofs.lemmas.Bool.{le-leb, lt-leb, leb-false}
 use Rattle.attr_kit.specs.Refusing.{first, when}
 use Rattle.agg_kit.specs.Entries.{Entry}
 use Rattle.agg_kit.proofs.Refusals.{early-is, first_refusal-is}
-use Rattle.agg_kit.specs.Feeds.{AllWhole}
+use Rattle.agg_kit.specs.Feeds.{NoneCopies}
 use Rattle.agg_kit.specs.Held.{HasInstrument}
 use Rattle.agg_kit.specs.Rounds.{StandsFor}
 use Rattle.agg_kit.specs.declared.fault.TallyFault.{TallyFault}
@@ -68,10 +68,10 @@ pub now_is : (w : Written) (h : List Entry) (e : Entry) → StandsFor w.tally h 
 unfolding fault_now measure_fault
 now_is w h e s = ap (λ o. first (when w.closed measure.Closed ∷ option_map (λ f. measure.Refused f) o ∷ [])) (first_refusal-is w.tally h e s)
 
--- where every feed keeps all keys, nothing is looked for after memory is wanted
-pub early_is : (w : Written) (e : Entry) → AllWhole (feeds_of w.tally.plan e.instrument) → early_fault w (ByName e) ≡ fault_now w (ByName e)
+-- where no feed copies what it keeps of the set, nothing is looked for after memory is wanted
+pub early_is : (w : Written) (e : Entry) → NoneCopies e.attrs (feeds_of w.tally.plan e.instrument) → early_fault w (ByName e) ≡ fault_now w (ByName e)
 unfolding fault_now early_fault
-early_is w e whole = ap (λ o. first (when w.closed measure.Closed ∷ option_map (λ f. measure.Refused f) o ∷ [])) (early-is w.tally e whole)
+early_is w e none = ap (λ o. first (when w.closed measure.Closed ∷ option_map (λ f. measure.Refused f) o ∷ [])) (early-is w.tally e none)
 
 -- where a recording is accepted, the writer is open, and nothing of the points refuses it
 pub now_open : (w : Written) (e : Recording) → fault_now w e ≡ None → (w.closed ≡ false) × (fault_at w.tally e ≡ None)

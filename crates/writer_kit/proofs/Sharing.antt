@@ -1,5 +1,5 @@
 -- What a shared writer's history makes of the first writer.
-use Rattle.std.proofs.Common.{◌≡◌, ◌≢◌, ◌∙◌, ℕ, Bool, true, false, cond, List, [], ◌∷◌, ◌++◌, length, Option, Some, None, Result, Ok, Err, IfOk, IfErr, refl, sym, ap, subst, append_assoc, append-nil}
+use Rattle.std.proofs.Common.{◌≡◌, ◌≢◌, ◌∙◌, ℕ, Bool, true, false, cond, List, [], ◌∷◌, ◌++◌, length, Option, Some, None, Result, Ok, Err, IfOk, IfErr, refl, sym, ap, subst, append_assoc, append-nil, suc, zero}
 use Rattle.std.specs.Prelude.{ℤ, is_none, slice_get}
 use Rattle.std.specs.Option.{option_map_or}
 use Rattle.agg_kit.specs.Entries.{Entry, entry_of}
@@ -27,7 +27,7 @@ use Rattle.writer_kit.specs.declared.fault.MeasureFault as measures
 use Rattle.writer_kit.specs.declared.shared.writer.SharedWriter.{SharedWriter}
 use Rattle.writer_kit.specs.declared.shared.change.WriterChange.{WriterChange}
 use Rattle.writer_kit.specs.declared.shared.change.WriterChange.TheVariants.{Measured, MeasuredHeld, Held, Collected, TakenIn}
-use Rattle.writer_kit.specs.Shared.{History, after_writer_change, held_by, held_in, recorded_by, tally_after, entries_of, then_acts, acts_after, Serves, MayRefuse, MayRefuseHold, MayRefuseRound, first_of, IsRound, Accepts, Adds, HasAllMeasured, IsNewest, LooksAt, Sees, StandsForSet}
+use Rattle.writer_kit.specs.Shared.{History, after_writer_change, held_by, held_in, recorded_by, tally_after, entries_of, then_acts, acts_after, Serves, MayRefuse, MayRefuseHold, MayRefuseRound, first_of, IsRound, Accepts, Adds, HasAllMeasured, IsNewest, LooksAt, Sees, StandsForSet, StandsIn}
 use Rattle.writer_kit.proofs.Recorded.{all-follow, all-held, all-plan, all-stand, is-accepted, is-after, taken-all, tally_with}
 use Rattle.writer_kit.proofs.Following as following
 use Rattle.writer_kit.proofs.Refusals.{now_open, collect_open, collect_later, stays_open}
@@ -216,6 +216,18 @@ acts_before t earlier (y ∷ ys) n time = acts_before (tally_after t y.1) (then_
 held-append : (xs ys : History) → held_in (xs ++ ys) ≡ held_in xs ++ held_in ys
 held-append [] ys = refl
 held-append (x ∷ xs) ys = ap (λ l. held_by x.1 ++ l) (held-append xs ys) ∙ sym (append_assoc (held_by x.1) (held_in xs) (held_in ys))
+
+get-front : {X : Type 0} (xs ys : List X) (n : ℕ) (x : X) → slice_get xs n ≡ Some x → slice_get (xs ++ ys) n ≡ Some x
+get-front [] ys n x at = absurd (cc)
+get-front (y ∷ xs) ys zero x at = at
+get-front (y ∷ xs) ys (suc n) x at = get-front xs ys n x at
+
+-- what a number stands for, it stands for in every longer history
+pub stands_on : (first : Written) (h more : History) (n i : ℕ) (a : AttrSet) → StandsIn first h n i a → StandsIn first (h ++ more) n i a
+stands_on first h more n i a at =
+    ap (λ (l : List (ℕ × AttrSet)). slice_get (first.tally.held ++ l) n) (held-append h more)
+    ∙ ap (λ (l : List (ℕ × AttrSet)). slice_get l n) (sym (append_assoc first.tally.held (held_in h) (held_in more)))
+    ∙ get-front (first.tally.held ++ held_in h) (held_in more) n (i, a) at
 
 last-is : {A : Type 0} (xs : List A) (x : A) → slice_get (xs ++ x ∷ []) (length xs) ≡ Some x
 last-is [] x = refl

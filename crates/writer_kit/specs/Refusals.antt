@@ -27,7 +27,7 @@ measure_fault w h e = first (when w.closed measure.Closed ∷ option_map (λ f. 
 unfoldable pub fault_now : Written → Recording → Option MeasureFault
 fault_now w r = first (when w.closed measure.Closed ∷ option_map (λ f. measure.Refused f) (fault_at w.tally r) ∷ [])
 
--- the same of the feeds before the first that keeps a list of keys: what is looked for before memory is wanted
+-- the same of the feeds before the first that copies what it keeps of the set: what is looked for before memory is wanted
 unfoldable pub early_fault : Written → Recording → Option MeasureFault
 early_fault w r = first (when w.closed measure.Closed ∷ option_map (λ f. measure.Refused f) (early_fault_at w.tally r) ∷ [])
 

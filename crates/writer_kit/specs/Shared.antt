@@ -68,6 +68,10 @@ abbrev pub held_in : History → List (ℕ × AttrSet)
 held_in [] = []
 held_in (x ∷ xs) = held_by x.1 ++ held_in xs
 
+-- a number stands for an instrument and a set, by what the first writer held and what the history holds
+abbrev pub StandsIn : Written → History → ℕ → ℕ → AttrSet → Type 0
+StandsIn first h n i a = slice_get (first.tally.held ++ held_in h) n ≡ Some (i, a)
+
 -- a change as events of a writer's schedule, behind earlier ones, the newest first
 abbrev pub then_acts : Tallied → List (Act Entry) → WriterChange → List (Act Entry)
 then_acts t earlier (Measured i a v) = Act.Measured (entry_of i a v) ∷ earlier
@@ -115,7 +119,7 @@ pub record IsRound (w : Written) (time : ℕ) (r : rounds.Collected) : Type 0 wh
   pub points : r.points ≡ points_of w.tally.plan.streams w.tally.series
 
 -- A writer may refuse a recording with this: for the first cause that fits, or for want of memory where none fits that is looked for before memory is
--- wanted. Points that are there take no memory where every feed keeps all keys.
+-- wanted. Points that are there take no memory where no feed copies what it keeps.
 pub record MayRefuse (w : Written) (r : Recording) (f : MeasureFault) : Type 0 where
   pub told : f ≢ no_memory → fault_now w r ≡ Some f
   pub short : f ≡ no_memory → early_fault w r ≡ None
@@ -158,7 +162,7 @@ module _ {G : Type 0} {g : _} (shared : SharedWriter G) where
 
   -- the number stands for the instrument and the set, by what the first writer held and what is now seen
   abbrev pub StandsForSet : ℕ → ℕ → AttrSet → Seat Written WriterChange g → Type 0
-  StandsForSet n i a t = slice_get ((first_of shared).tally.held ++ held_in (seen t)) n ≡ Some (i, a)
+  StandsForSet n i a t = StandsIn (first_of shared) (seen t) n i a
 
   abbrev pub LooksAt : (Written → Type 0) → Seat Written WriterChange g → Seat Written WriterChange g → Type 0
   LooksAt answered s t = Looks (λ w. w) after_writer_change (first_of shared) answered s t

@@ -103,8 +103,8 @@ impl Writer {
 
     /// Records a value in the stream of every feed of an instrument, or in none.
     ///
-    /// Refuses, in this order: `Closed`; `Refused` with what the tally refuses, `NoMemory` last, but that a feed which keeps a
-    /// list of keys may want memory before it and the feeds behind it are looked at. A refusal changes nothing. O(feeds of the
+    /// Refuses, in this order: `Closed`; `Refused` with what the tally refuses, `NoMemory` last, but that a feed which keeps some
+    /// keys of the set may want memory before it and the feeds behind it are looked at. A refusal changes nothing. O(feeds of the
     /// instrument times the size of the attributes and the bounds).
     #[tactic(auto, using(crate::proofs::Refusals::now_closed, crate::proofs::Refusals::now_refused, crate::proofs::Refusals::now_accepted))]
     pub fn measure(
@@ -116,9 +116,9 @@ impl Writer {
         ensures ok { OnOk result (fault_now self.old (ByName (entry_of instrument attrs.now value)) ≡ None) }
         ensures value { OnOk result (self.new ≡ after_record self.old (ByName (entry_of instrument attrs.now value))) }
         ensures err { IfErr result (λ f. f ≢ no_memory → fault_now self.old (ByName (entry_of instrument attrs.now value)) ≡ Some f) }
-        // Where a feed keeps a list of keys, what it keeps takes memory; the feeds before the first such feed are in range.
+        // A feed that keeps some keys of the set copies them, which takes memory; the feeds before the first such feed are in range.
         ensures no_memory { IfErr result (λ f. f ≡ no_memory → early_fault self.old (ByName (entry_of instrument attrs.now value)) ≡ None) }
-        // Points that are there take no memory where every feed keeps all keys.
+        // Points that are there take no memory where no feed copies what it keeps: it keeps all keys, or none that the set has.
         ensures held { TakesNoMemory self.old.tally (ByName (entry_of instrument attrs.now value)) → IfErr result (λ f. f ≢ no_memory) }
         ensures unchanged { OnErr result (self.new ≡ self.old) }
     {

@@ -15,8 +15,8 @@ import (
 	"sync/atomic"
 	"time"
 
-	"kotskhin"
-	"kotskhin/attribute"
+	kotskhin "kotskhin.example/sdk/go"
+	"kotskhin.example/sdk/go/attribute"
 )
 
 var (

@@ -10,8 +10,8 @@ use Rattle.agg_kit.specs.Sound.{AreSound}
 use Rattle.agg_kit.specs.Steps.{Stored, fed_set}
 use Rattle.agg_kit.specs.Tallies.{Points}
 use Rattle.agg_kit.specs.declared.fault.TallyFault.TheVariants as faults
-use Rattle.agg_kit.proofs.OneFeed.{fits, rest-fits, rest-sound, absent-first, absent-whole, absent-held, there-within, there-added, there-out, there-first, there-whole, stays, still}
-use Rattle.agg_kit.proofs.Records.{set-other, same_entries, entries-read, stored-length, sound-shape, recorded-here, whole-listed, if_err_so, on_err, on_err_map, step-along, if_err}
+use Rattle.agg_kit.proofs.OneFeed.{fits, rest-fits, rest-sound, absent-first, absent-early, absent-held, there-within, there-added, there-out, there-first, there-early, stays, still}
+use Rattle.agg_kit.proofs.Records.{set-other, same_entries, entries-read, stored-length, sound-shape, recorded-here, early-copied, if_err_so, on_err, on_err_map, step-along, if_err}
 use Rattle.agg_kit.proofs.Steps.{absent}
 use Rattle.agg_kit.proofs.recording.+record_each.Goals as goal
 
@@ -66,11 +66,11 @@ returns-in_default-fresh-clause-err t c =
 
 pub returns-in_default-fresh-clause-no_memory : goal.returns-in_default-fresh-clause-no_memory
 returns-in_default-fresh-clause-no_memory t c =
-    let whole = absent-whole c.args.plan.now c.args.attrs.now c.args.value c.args.series.now.items c.in-Some.feed.now c.in-Some.rest.now c.args.feeds.now c.in-Some.ensures.cases.0 c.requires.feeds
+    let before = absent-early c.args.plan.now c.args.attrs.now c.args.value c.args.series.now.items c.in-Some.feed.now c.in-Some.rest.now c.args.feeds.now c.in-Some.ensures.cases.0 c.requires.feeds
     c.index_mut-points.result.now c.index_mut-points.ensures.value
     c.limit-limit.result c.set_or-set.result.now c.find.result c.limit-limit.ensures.value (c.set_or-set.ensures ∙ c.in_ok-only.ensures.value) c.find.ensures
     c.in_default-find.is c.ranges.value c.fresh.new.self c.fresh.ensures.entries in
-    if_err _ _ c.record_each.result (λ f told n. whole (told n)) (simp (to_z-of_z, c.ranges.value) at c.record_each.ensures.no_memory)
+    if_err _ _ c.record_each.result (λ f told n. before (told n)) (simp (to_z-of_z, c.ranges.value) at c.record_each.ensures.no_memory)
 
 pub returns-in_default-fresh-clause-held : goal.returns-in_default-fresh-clause-held
 returns-in_default-fresh-clause-held t c = λ had all.
@@ -100,12 +100,12 @@ returns-in_err-record_each-clause-err t c =
 
 pub returns-in_err-record_each-clause-no_memory : goal.returns-in_err-record_each-clause-no_memory
 returns-in_err-record_each-clause-no_memory t c =
-    let whole = absent-whole c.args.plan.now c.args.attrs.now c.args.value c.args.series.now.items c.in-Some.feed.now c.in-Some.rest.now c.args.feeds.now c.in-Some.ensures.cases.0 c.requires.feeds
+    let before = absent-early c.args.plan.now c.args.attrs.now c.args.value c.args.series.now.items c.in-Some.feed.now c.in-Some.rest.now c.args.feeds.now c.in-Some.ensures.cases.0 c.requires.feeds
     c.index_mut-points.result.now c.index_mut-points.ensures.value
     c.limit-limit.result c.set_or-set.result.now c.find.result c.limit-limit.ensures.value (c.set_or-set.ensures ∙ c.in_ok-only.ensures.value) c.find.ensures
     c.in_default-find.is c.ranges.value c.fresh.new.self c.fresh.ensures.entries in
     let rest-told = simp (to_z-of_z, c.ranges.value) at c.in_err-record_each.ensures.no_memory in
-    let told = λ (n : c.in_err-record_each.field-0.0 ≡ faults.NoMemory). whole (rest-told n) in
+    let told = λ (n : c.in_err-record_each.field-0.0 ≡ faults.NoMemory). before (rest-told n) in
     search (rules, told, c.from_residual-in_err-record_each.ensures)
 
 pub returns-in_err-record_each-clause-held : goal.returns-in_err-record_each-clause-held
@@ -180,17 +180,17 @@ returns-in_err-record_each-2-clause-err t c =
 pub returns-in_err-record_each-2-clause-no_memory : goal.returns-in_err-record_each-2-clause-no_memory
 returns-in_err-record_each-2-clause-no_memory t c =
     let told = simp (to_z-of_z, c.ranges.value) at c.takes.ensures in
-    let whole = there-whole c.args.plan.now c.args.attrs.now c.args.value c.args.series.now.items c.in-Some.feed.now c.in-Some.rest.now c.args.feeds.now c.in-Some.ensures.cases.0 c.requires.feeds
+    let before = there-early c.args.plan.now c.args.attrs.now c.args.value c.args.series.now.items c.in-Some.feed.now c.in-Some.rest.now c.args.feeds.now c.in-Some.ensures.cases.0 c.requires.feeds
     c.index_mut-points.result.now c.index_mut-points.ensures.value
     c.limit-limit.result c.set_or-set.result.now c.find.result c.limit-limit.ensures.value (c.set_or-set.ensures ∙ c.in_ok-only.ensures.value) c.find.ensures
     c.in-Some-find.place c.in-Some-find.is (told (shape_at c.args.plan.now c.in-Some.feed.now.stream) ∙ ap not c.if-not-takes.false) in
     let rest-told = simp (to_z-of_z, c.ranges.value) at c.in_err-record_each-2.ensures.no_memory in
-    let so = λ (n : c.in_err-record_each-2.field-0.0 ≡ faults.NoMemory). whole (rest-told n) in
+    let so = λ (n : c.in_err-record_each-2.field-0.0 ≡ faults.NoMemory). before (rest-told n) in
     search (rules, so, c.from_residual-in_err-record_each-2.ensures)
 
 pub returns-in_err-only-clause-no_memory : goal.returns-in_err-only-clause-no_memory
 returns-in_err-only-clause-no_memory t c =
-    let none = whole-listed c.args.plan.now c.args.attrs.now c.args.value (entries_of c.args.series.now.items) c.in-Some.feed.now c.in-Some.rest.now c.args.feeds.now c.in-Some.ensures.cases.0 c.in_err-only.ensures.no_memory in
+    let none = early-copied c.args.plan.now c.args.attrs.now c.args.value (entries_of c.args.series.now.items) c.in-Some.feed.now c.in-Some.rest.now c.args.feeds.now c.in-Some.ensures.cases.0 c.in_err-only.ensures.no_memory in
     if_err_so _ _ c.from_residual.result none
 
 pub add-requires-clause-within : goal.add-requires-clause-within

@@ -1,12 +1,14 @@
 use Rattle.std.proofs.Common.{◌≡◌, ◌++◌, ◌∷◌, [], List, length, length-append, refl, subst, sym, ap, ◌∙◌, arith}
 use Rattle.std.proofs.lemmas.Result.{err_from_is_err_and}
+use Rattle.std.specs.List.{AllByRecursion}
 use Rattle.bytes_kit.specs.Format.{varint, forms_behind, past_all}
+use Rattle.bytes_kit.specs.KeyForms.{IsKeyRest}
 use Rattle.bytes_kit.specs.MessageFits.{IsEntry}
 use Rattle.bytes_kit.specs.MessageLaws.{entry_code, entry_bytes}
-use Rattle.bytes_kit.specs.Messages.{Earlier, Entry, entry, past_entry, past_key, nothing_earlier, last_key}
+use Rattle.bytes_kit.specs.Messages.{Earlier, Entry, common, entry, past_entry, past_key, nothing_earlier, last_key}
 use Rattle.bytes_kit.specs.Reading.{NoneAt}
-use Rattle.bytes_kit.proofs.Behind.{earlier_more}
-use Rattle.bytes_kit.proofs.PastRefusing.{no_few, no_list, taken_more}
+use Rattle.bytes_kit.proofs.Behind.{earlier_more, key_fits}
+use Rattle.bytes_kit.proofs.PastRefusing.{all_more, no_few, no_list, taken_more}
 use Rattle.bytes_kit.proofs.cells.read_listed.Goals as goal
 
 pub returns-in_err-count-2-clause-found : goal.returns-in_err-count-2-clause-found
@@ -30,6 +32,8 @@ loop-preserved c =
     let found = subst (λ (l : List Entry). c.loop.reader.rest ≡ entry (z, last_key l) x ++ last) c.as_slice.ensures.value c.in_ok-item.ensures.found in
     let at = subst (λ (y : Earlier). c.loop.reader.rest ≡ entry y x ++ last) c.loop.invariant.earlier found in
     let after = subst (λ (l : List Entry). c.read_entry.new.history ≡ past_key (z, last_key l) x.0) c.as_slice.ensures.value c.in_ok-item.ensures.history in
+    let rest = subst (λ (l : List Entry). IsKeyRest (common (last_key l) x.0) x.0) c.as_slice.ensures.value c.in_ok-item.ensures.key in
+    let fits : IsEntry x = (key_fits xs x.0 c.loop.invariant.value rest, c.in_ok-item.ensures.cell) in
     let items : c.push.new.self.items ≡ xs ++ x ∷ [] = c.in_ok-push.ensures.items in
     let long : length c.push.new.self.items ≡ length (xs ++ x ∷ []) = ap length items in
     record {
@@ -37,6 +41,7 @@ loop-preserved c =
       taken = taken_more entry past_entry nothing_earlier c.args.reader.now.rest (varint c.in_ok-count-2.count) c.loop.reader.rest last xs x c.loop.invariant.taken at
           ∙ ap (λ (l : List Entry). varint c.in_ok-count-2.count ++ (forms_behind entry past_entry nothing_earlier l ++ last)) (sym items);
       earlier = subst (λ (l : List Entry). (c.read_entry.new.history, last_key l) ≡ past_all past_entry nothing_earlier l) (sym items) (earlier_more z c.read_entry.new.history (last_key xs) xs x c.loop.invariant.earlier after);
+      value = subst (AllByRecursion IsEntry) (sym items) (all_more IsEntry xs x c.loop.invariant.value fits);
       end = c.in_ok-item.ensures.end ∙ c.loop.invariant.end;
     }
 

@@ -2,7 +2,7 @@ use Rattle.std.proofs.Common.{sym}
 use Rattle.std.proofs.lemmas.Result.{err_from_is_err_and}
 use Rattle.gossip_kit.specs.Bodies.{cells_of, delta_of, ack_of}
 use Rattle.bytes_kit.specs.Messages.{MessageFields, fields_of_message}
-use Rattle.bytes_kit.proofs.MessageSealing.{faulty, view_bytes, view_is, view_sound, same_message_fields}
+use Rattle.bytes_kit.proofs.MessageSealing.{faulty, view_bytes, view_fits, view_is, view_sound, same_message_fields}
 use Rattle.bytes_kit.proofs.Sealing.{no_memory}
 use Rattle.bytes_kit.proofs.messages.decode_message.Goals as goal
 
@@ -25,6 +25,11 @@ pub returns-clause-ok : goal.returns-clause-ok
 returns-clause-ok c =
     let body = c.in_ok-body.body in
     view_bytes c.new.result c.args.bytes.now c.in_ok-from.from c.in_ok-from.to (cells_of body) (delta_of body) (ack_of body) c.in_ok-from.carried c.new.ensures.value c.in_ok-body.ensures.value c.in_ok-from.ensures.ok
+
+pub returns-clause-value : goal.returns-clause-value
+returns-clause-value c =
+    let body = c.in_ok-body.body in
+    view_fits c.new.result c.in_ok-from.from c.in_ok-from.to (cells_of body) (delta_of body) (ack_of body) c.in_ok-from.carried c.new.ensures.value c.in_ok-body.ensures.one c.in_ok-body.ensures.value c.in_ok-from.ensures.value
 
 pub returns-clause-sound : goal.returns-clause-sound
 returns-clause-sound c =

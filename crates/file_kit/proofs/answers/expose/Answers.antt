@@ -1,3 +1,4 @@
+use Rattle.std.proofs.lemmas.Result.{err_from_is_err_and}
 use Rattle.std.proofs.Common.{ap, refl}
 use Rattle.gateway_kit.specs.GatewayState.{GatewayState}
 use Rattle.file_kit.proofs.Joining.{still_shows}
@@ -13,3 +14,13 @@ returns-clause-value c = (
     | in-OpenMetrics+in_ok-page-in-OpenMetrics w ↦ rw (w.page-is, w.in-OpenMetrics.is) (_, refl, w.in_ok-page-in-OpenMetrics.ensures.value)
   ],
 )
+
+pub returns-in_err-page-in-Prometheus-clause-err : goal.returns-in_err-page-in-Prometheus-clause-err
+returns-in_err-page-in-Prometheus-clause-err c =
+    let p = err_from_is_err_and c.from_residual-in_err-page-in-Prometheus.result c.from_residual-in_err-page-in-Prometheus.ensures.1 in
+    rw (p.1, p.2) tt
+
+pub returns-in_err-page-in-OpenMetrics-clause-err : goal.returns-in_err-page-in-OpenMetrics-clause-err
+returns-in_err-page-in-OpenMetrics-clause-err c =
+    let p = err_from_is_err_and c.from_residual-in_err-page-in-OpenMetrics.result c.from_residual-in_err-page-in-OpenMetrics.ensures.1 in
+    rw (p.1, p.2) tt

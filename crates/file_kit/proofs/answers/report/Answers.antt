@@ -1,3 +1,4 @@
+use Rattle.std.proofs.lemmas.Result.{err_from_is_err_and}
 use Rattle.std.proofs.Common.{◌∙◌, ap}
 use Rattle.gateway_kit.specs.GatewayState.{GatewayState}
 use Rattle.rollup_kit.specs.TableText.{table_text}
@@ -13,3 +14,8 @@ returns-clause-value c = (
     others = c.in_ok-others.ensures;
   },
 )
+
+pub returns-in_err-others-clause-err : goal.returns-in_err-others-clause-err
+returns-in_err-others-clause-err c =
+    let p = err_from_is_err_and c.from_residual-in_err-others.result c.from_residual-in_err-others.ensures.1 in
+    rw (p.1, p.2) tt

@@ -1,3 +1,4 @@
+use Rattle.std.proofs.lemmas.Result.{err_from_is_err_and}
 use Rattle.std.proofs.Common.{◌∙◌, ap}
 use Rattle.gossip_kit.proofs.Changes.{alone}
 use Rattle.gossip_kit.specs.Views.{NodeModel}
@@ -15,3 +16,8 @@ returns-clause-value c = (
       ∙ ap (λ (n : NodeModel). kept_points n.gateway.points c.in_ok-held.held.points) c.in_ok-keeper.ensures.value
       ∙ ap (λ (p : Points). shown names_key p) (alone c.in_ok-held.held.points),
 )
+
+pub returns-in_err-merge-clause-err : goal.returns-in_err-merge-clause-err
+returns-in_err-merge-clause-err c =
+    let p = err_from_is_err_and c.from_residual-in_err-merge.result c.from_residual-in_err-merge.ensures.1 in
+    rw (p.1, p.2) tt

@@ -1,11 +1,12 @@
 use Rattle.std.proofs.Common.{◌∙◌, ◌<◌, ℕ, arith, length, refl, sym, FitsSigned, w64}
 use Rattle.std.proofs.lemmas.Int.{to_z-of_z}
 use Rattle.attr_kit.specs.declared.attr_set.AttrSet.{AttrSet}
+use Rattle.plan_kit.specs.Plans.{feeds_of}
 use Rattle.agg_kit.specs.Entries.{Entry, entry_of}
 use Rattle.agg_kit.specs.Held.{held_of}
 use Rattle.agg_kit.specs.Tallies.{Tallied}
 use Rattle.agg_kit.specs.declared.held.HeldPoint.{HeldPoint}
-use Rattle.agg_kit.proofs.HeldPoints.{held-after, held-early, held-fault, held-here, held-set, placed-measured, placed-set, shown-at}
+use Rattle.agg_kit.proofs.HeldPoints.{held-after, held-early, held-fault, held-here, held-set, kept-measured, placed-set, room-kept, room-set, shown-at}
 use Rattle.agg_kit.proofs.Measured.{seen-with}
 use Rattle.agg_kit.proofs.Records.{if_err, on_err_map, on_ok, read-there}
 use Rattle.agg_kit.proofs.tally.Tally.measure_held.Goals as goal
@@ -15,7 +16,7 @@ measure_at-requires c =
     let hs = c.self.inside.held.items in
     let h : HeldPoint = c.in-Some.point.now in
     let l : c.args.n < length hs = omega (arith, c.in-Some.ensures.variant.0 refl, c.self.inside.held.ok) in
-    c.self.invariant c.args.n h (read-there hs c.args.n h l c.in-Some.ensures.value)
+    c.self.invariant.0 c.args.n h (read-there hs c.args.n h l c.in-Some.ensures.value)
 
 pub invariant_of-self-2 : goal.invariant_of-self-2
 invariant_of-self-2 c =
@@ -26,7 +27,12 @@ invariant_of-self-2 c =
     let e : Entry = entry_of h.instrument h.attrs c.args.value in
     let k : HeldPoint = record { instrument = h.instrument; attrs = h.attrs; places = c.measure_at.new.places } in
     let m = simp to_z-of_z at c.measure_at.ensures.measured in
-    placed-set c.measure_at.new.self hs c.args.n k l (placed-measured c.self.inside.streams c.measure_at.new.self e c.measure_at.result hs m c.self.invariant) c.measure_at.ensures.places
+    let all = kept-measured c.self.inside.streams c.measure_at.new.self e c.measure_at.result hs m c.self.invariant in
+    let fs = feeds_of c.measure_at.new.self.plan h.instrument in
+    let had = all.1 c.args.n h (read-there hs c.args.n h l c.in-Some.ensures.value) in (
+      placed-set c.measure_at.new.self hs c.args.n k l all.0 c.measure_at.ensures.places,
+      room-set c.measure_at.new.self.plan hs c.args.n k l all.1 (room-kept fs h.places c.measure_at.new.places c.measure_at.ensures.room had),
+    )
 
 pub returns : goal.returns
 returns c =

@@ -16,4 +16,4 @@ from_sound-requires c =
     let whole : c.from_vec.result ≡ a.totals ++ tail = c.from_vec.ensures ∙ (c.loop-tombstone.invariant ∙ ap (λ l. a.totals ++ l) (take_all c.loop-tombstone.tombstone-index tail end)) in
     let mine : a.totals ++ tail ≡ c.self.inside.totals.items ++ drop c.self.inside.sealed c.self.inside.tombstones.items = ap (λ (s : ArchiveState). s.totals ++ drop s.sealed s.tombstones) (sym c.self.view_is) in
     let later : c.self.inside.start < c.args.time = search rules in
-    ap (export_fault c.self.inside.start c.args.time) (whole ∙ mine) ∙ exported_builds c.self.invariant c.args.time later
+    ap (export_fault c.self.inside.start c.args.time) (whole ∙ mine) ∙ exported_builds c.self.invariant.0 c.args.time later

@@ -22,6 +22,6 @@ returns-else-eq c =
     let other : (writers.ghosts).eq c.args.self.now.writer writer ≡ false =
     ap (λ (s : ArchiveState). (writers.ghosts).eq s.writer writer) (sym c.self.view_is) ∙ (sym c.eq.ensures ∙ c.if-eq.false) in
     c.has_stream.ensures
-    ∙ ap (λ (s : Stream). list_any (λ (i : PartItem). stream_eq s i.stream) items) (own_is c.self.inside.stream c.self.invariant.own)
+    ∙ ap (λ (s : Stream). list_any (λ (i : PartItem). stream_eq s i.stream) items) (own_is c.self.inside.stream c.self.invariant.0.own)
     ∙ sym (any_map marks each items)
     ∙ ap (λ b. b || list_any marks (map each items)) (sym other)

@@ -5,4 +5,4 @@ use Rattle.archive_kit.proofs.Kept.{totals_apart}
 use Rattle.archive_kit.proofs.archive.Archive.totals_with.Goals as goal
 
 pub add_totals-requires : goal.add_totals-requires
-add_totals-requires c = subst (IsDistinct same_key) (sym c.in_ok-totals.ensures.value) (totals_apart c.self.invariant)
+add_totals-requires c = subst (IsDistinct same_key) (sym c.in_ok-totals.ensures.value) (totals_apart c.self.invariant.0)

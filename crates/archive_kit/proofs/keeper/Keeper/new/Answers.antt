@@ -1,8 +1,7 @@
-use Rattle.std.proofs.Common.{List, sym, ap, subst, ◌∙◌}
+use Rattle.std.proofs.Common.{List, ap, ◌∙◌}
 use Rattle.gossip_kit.specs.Views.{NodeModel}
-use Rattle.archive_kit.specs.Keeping.{has_name, AreInOrder}
-use Rattle.archive_kit.specs.declared.name.Name.{Name}
-use Rattle.archive_kit.proofs.Skipping.{empty_shown, none_told, nothing_in_order}
+use Rattle.archive_kit.specs.Named.{Name, has_name}
+use Rattle.archive_kit.proofs.Skipping.{empty_shown, none_told}
 use Rattle.archive_kit.proofs.keeper.Keeper.new.Goals as goal
 
 pub invariant_of-result : goal.invariant_of-result
@@ -10,7 +9,6 @@ invariant_of-result c =
     let none = ap (λ (n : NodeModel). n.gateway.points) c.new-2.ensures.value ∙ c.new.ensures.value in
     record {
       stream_is = c.in_ok-tombstones.ensures;
-      in_order = subst (λ (l : List Name). AreInOrder l) (sym c.new-3.ensures.items) nothing_in_order;
-      told = λ w s. ap (λ (l : List Name). has_name l w s) c.new-3.ensures.items ∙ none_told c.new-2.result.gateway.points none w s;
+      told = λ w s. ap (λ (l : List Name). has_name l w s) c.new-3.ensures.names ∙ none_told c.new-2.result.gateway.points none w s;
       all_shown = empty_shown c.new-2.result.gateway.points none;
     }

@@ -5,10 +5,10 @@ use Rattle.bytes_kit.proofs.fields.SharedStreamPassage.read_behind.Goals as goal
 pub returns-in-Some-clause-found : goal.returns-in-Some-clause-found
 returns-in-Some-clause-found c =
     let at : c.args.reader.now.rest ≡ 0 ∷ c.byte.new.self.rest = cc (c.in_ok-byte.ensures.ok, c.in-0.is) in
-    at ∙ ap (λ (l : List ℕ). l ++ c.byte.new.self.rest) (sym (again c.args.history.now c.in-Some.stream (sym c.in_ok-stream-in-0.ensures ∙ c.in-Some.is)))
+    at ∙ ap (λ (l : List ℕ). l ++ c.byte.new.self.rest) (sym (again c.args.history.now c.in-Some.stream (sym c.in_ok-stream-in-0.ensures.value ∙ c.in-Some.is)))
 
 pub returns-in-Some-clause-history : goal.returns-in-Some-clause-history
-returns-in-Some-clause-history c = sym (past_again c.args.history.now c.in-Some.stream (sym c.in_ok-stream-in-0.ensures ∙ c.in-Some.is))
+returns-in-Some-clause-history c = sym (past_again c.args.history.now c.in-Some.stream (sym c.in_ok-stream-in-0.ensures.value ∙ c.in-Some.is))
 
 pub returns-in-1-clause-found : goal.returns-in-1-clause-found
 returns-in-1-clause-found c =

@@ -1,8 +1,9 @@
 use Rattle.std.proofs.Common.{◌≡◌, ◌++◌, ◌∷◌, [], List, length, length-append, subst, sym, ap, ◌∙◌, arith}
 use Rattle.std.proofs.lemmas.Result.{err_from_is_err_and}
+use Rattle.std.specs.List.{AllByRecursion}
 use Rattle.bytes_kit.specs.Format.{varint, forms_behind, past_all}
 use Rattle.bytes_kit.specs.Past.{Past}
-use Rattle.bytes_kit.proofs.PastRefusing.{no_few, no_list, taken_more, past_more}
+use Rattle.bytes_kit.proofs.PastRefusing.{all_more, no_few, no_list, taken_more, past_more}
 use Rattle.bytes_kit.proofs.passages.SeqPassage.read_behind.Goals as goal
 
 pub returns-in_err-count-2-clause-found : goal.returns-in_err-count-2-clause-found
@@ -33,5 +34,6 @@ loop-preserved g c =
       taken = taken_more code past p c.args.reader.now.rest (varint c.in_ok-count-2.count) c.loop.reader.rest last xs x c.loop.invariant.taken at
           ∙ ap (λ (l : List _). varint c.in_ok-count-2.count ++ (forms_behind code past p l ++ last)) (sym items);
       history = c.in_ok-item.ensures.history ∙ ap (λ (z : Past). past z x) c.loop.invariant.history ∙ sym (past_more code past p xs x) ∙ ap (λ (l : List _). past_all past p l) (sym items);
+      value = subst (AllByRecursion g.T.Passage.is_value) (sym items) (all_more g.T.Passage.is_value xs x c.loop.invariant.value c.in_ok-item.ensures.value);
       end = c.in_ok-item.ensures.end ∙ c.loop.invariant.end;
     }

@@ -1,3 +1,0 @@
-module kotskhin
-
-go 1.18

@@ -1,0 +1,3 @@
+module kotskhin.example/sdk/go
+
+go 1.18
