@@ -14,7 +14,7 @@ use Rattle.archive_kit.proofs.keeper.Keeper.take.Goals as goal
 -- an export that was seen to bring no tombstone
 brings-none : (s : Stream) (e : Export) → s ≡ tombstones → (b : Bool) → b ≡ list_any (λ (p : ExportPoint). stream_eq s p.stream) e.points → b ≡ false
     → list_any (λ (p : ExportPoint). stream_eq tombstones p.stream) e.points ≡ false
-brings-none s e is b told no = ap (λ (x : Stream). list_any (λ (p : ExportPoint). stream_eq x p.stream) e.points) (sym is) ∙ sym told ∙ no
+brings-none s e is b told none = ap (λ (x : Stream). list_any (λ (p : ExportPoint). stream_eq x p.stream) e.points) (sym is) ∙ sym told ∙ none
 
 -- whether an incarnation is named, by what was told of the same node
 is-named : (node now : NodeModel) (e : Export) → node ≡ now → (b v : Bool) → b ≡ is_named now.gateway.points e.writer e.start → b ≡ v
