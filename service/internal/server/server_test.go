@@ -275,6 +275,14 @@ func TestWhoMayNameAPeerAsGone(t *testing.T) {
 	}
 }
 
+// Peers ask who archives what: two of one service would each adopt.
+func TestWhoArchivesWhatIsTold(t *testing.T) {
+	_, url := served(t, 1, func(s *Server) { s.Gossip.Archives = []string{"shop"} })
+	if status, said, _ := got(t, http.MethodGet, url+gossip.PeersPath, nil); status != 200 || !strings.Contains(said, `"archives":["shop"]`) {
+		t.Fatal(status, said)
+	}
+}
+
 func opened(t *testing.T, id uint32) *held.Held {
 	t.Helper()
 	return must[*held.Held](t)(held.New(must[kotskhin.Gateway](t)(kotskhin.OpenGateway(id)), held.Limits{Points: 9, Streams: 9}))
