@@ -481,7 +481,7 @@ std::map<std::string, Run::Step> Run::all_steps() {
              Text of(service);
              Instance as = instance(it["instance"]);
              Handle<kit_archive> made;
-             checked(kit_archive_begin(made.at(), of.at, of.len, as.high, as.low, number<Time>(it["start"]), number<Index>(it["limit"])));
+             check(kit_archive_begin(made.at(), of.at, of.len, as.high, as.low, number<Time>(it["start"]), number<Index>(it["limit"])));
              make(it, Archive(std::move(made)));
          })},
         {"adopt", done([this](const Json &it) {

@@ -387,9 +387,9 @@ static void other_answers_say_nothing() {
 }
 
 static void exports_that_were_late_are_read() {
-    using metrics::detail::late_of;
-    CHECK(late_of("2") == 2 && late_of(" 2\r\n") == 2 && late_of(std::string(19, '9')) == 9'999'999'999'999'999'999u);
-    for (auto it : {"0", "", " \r\n", "two", "-2", "+2", "2.0", "2222222222222222222222222"}) CHECK(late_of(it) == 0);
+    using metrics::detail::read_late;
+    CHECK(read_late("2") == 2 && read_late(" 2\r\n") == 2 && read_late(std::string(19, '9')) == 9'999'999'999'999'999'999u);
+    for (auto it : {"0", "", " \r\n", "two", "-2", "+2", "2.0", "2222222222222222222222222"}) CHECK(read_late(it) == 0);
 }
 
 // An export of which something was not taken goes to no other gateway, and the one that said so is asked first the next time.
