@@ -279,7 +279,7 @@ BUGS = [
         "None => return Err(Error::NotStarted),", 'None => panic!("the provider has started"),',
         ("metrics", LATE), f"---- {LATE} stdout ----"),
     Bug("Rust", "an archive begins as late as it is made", "rust/kotskhin/src/archive.rs",
-        "Archive::begin_under(service, drawn_instance(), START, limit)", "Archive::begin_under(service, drawn_instance(), 900, limit)",
+        "Archive::begin_under(service, draw_instance(), START, limit)", "Archive::begin_under(service, draw_instance(), 900, limit)",
         ("archives", OLD_PLAN), f"---- {OLD_PLAN} stdout ----"),
     Bug("Rust", "who is refused is told by a number", "rust/kotskhin/src/metrics/telling.rs",
         "self.why.say(f, &NAMED)?;", "self.why.say(f, &[])?;", ("streams", BY_NAME), f"---- {BY_NAME} stdout ----"),
