@@ -192,7 +192,9 @@ def in_rust():
     lines += ["", "/// The words for the places that a code tells.", "pub const fn places(code: i32) -> &'static [&'static str] {"]
     lines.append("    match code {")
     for words in dict.fromkeys(it.places for it in CODES if it.places):
-        lines.append(f"        {' | '.join(it.name for it in CODES if it.places == words)} => &[{', '.join(map(quoted, words))}],")
+        named = " | ".join(code.name for code in CODES if code.places == words)
+        arm = f"{named} => &[{', '.join(map(quoted, words))}],"
+        lines += textwrap.wrap(arm, WIDE, initial_indent=" " * 8, subsequent_indent=" " * 12, break_long_words=False)
     lines += ["        _ => &[],", "    }", "}"]
     for it in KINDS:
         lines += ["", f"kind!(\n    /// {it.page[0]}\n    {it.name.removeprefix('Kit')}\n);"]
