@@ -451,8 +451,8 @@ func TestWhatIsForgottenIsCollected(t *testing.T) {
 	if held := atomic.LoadInt64(&inC.held); held != live {
 		t.Fatal(held, live)
 	}
-	for _, it := range []io.Closer{export, message, gateway, export} {
-		it.Close()
+	for _, closer := range []io.Closer{export, message, gateway, export} {
+		closer.Close()
 	}
 	if held := atomic.LoadInt64(&inC.held); held != 0 {
 		t.Fatal(held)

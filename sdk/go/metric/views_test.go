@@ -114,8 +114,8 @@ func TestEachStreamTellsItsLimit(t *testing.T) {
 		}
 		total(t, p)
 		var told []string
-		for _, it := range refused.list {
-			told = append(told, fmt.Sprintf("%s %v %d", it.Instrument, errors.Is(it, ErrCardinalityLimit), it.Recordings))
+		for _, refusal := range refused.list {
+			told = append(told, fmt.Sprintf("%s %v %d", refusal.Instrument, errors.Is(refusal, ErrCardinalityLimit), refusal.Recordings))
 		}
 		refused.list = nil
 		return strings.Join(told, "; ")
