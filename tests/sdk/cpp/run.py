@@ -33,14 +33,14 @@ TSAN = ["-fsanitize=thread"]
 THREADED = ("otel_cases", "otel", "readers")
 # What is run with another word, and what is run without sanitizers.
 WITH, PLAIN = {"otel": ("otel", "plugin", "forks", "misuse")}, ("forks",)
-WORDS = {it: [str(HERE.parent / f"{it}.json")] for it in ("cases", "otel_cases")}
+WORDS = {word: [str(HERE.parent / f"{word}.json")] for word in ("cases", "otel_cases")}
 SECONDS = 1800
 
 
 def done(*command):
     """Runs a command, and tells its output where it fails."""
     given = {**os.environ, "ASAN_OPTIONS": "detect_leaks=1:quarantine_size_mb=16"}
-    told = subprocess.run([str(it) for it in command], stdin=subprocess.DEVNULL, stdout=subprocess.PIPE, stderr=subprocess.STDOUT,
+    told = subprocess.run([str(word) for word in command], stdin=subprocess.DEVNULL, stdout=subprocess.PIPE, stderr=subprocess.STDOUT,
                           timeout=SECONDS, env=given, check=False)
     if told.returncode:
         sys.exit(f"{' '.join(map(str, command))}: status {told.returncode}\n{told.stdout.decode(errors='replace')}")
@@ -80,9 +80,10 @@ def plugin(kit, room, compiler, flags):
 def misuse(kit, compiler):
     """What must not compile is refused, each line by the error that stands there."""
     source = HERE / "misuse.cpp"
-    command = [str(it) for it in (compiler, "-std=c++17", "-fsyntax-only", f"-I{kit}/include", source)]
+    command = [str(word) for word in (compiler, "-std=c++17", "-fsyntax-only", f"-I{kit}/include", source)]
     told = subprocess.run(command, stdin=subprocess.DEVNULL, capture_output=True, text=True, timeout=SECONDS, check=False).stderr
-    wanted = {number: it[1] for number, line in enumerate(source.open(encoding="utf-8"), 1) if (it := re.search("// error: (.*)", line))}
+    lines = source.read_text(encoding="utf-8").splitlines()
+    wanted = {number: error[1] for number, line in enumerate(lines, 1) if (error := re.search("// error: (.*)", line))}
     errors = [(file, int(line), why) for file, line, why in re.findall(r"^(.*?):(\d+):\d+: error: (.*)", told, re.M)]
     is_good = all(file == str(source) and re.search(wanted.get(line, "(?!)"), why) for file, line, why in errors)
     if not is_good or {line for _, line, _ in errors} != set(wanted):
