@@ -47,7 +47,7 @@ BAD = [
 GOOD = b"keepers 2\n\n# two keepers\narchive 1 shop/9 1 1\n"
 
 
-def done(program, script):
+def run_program(program, script):
     return subprocess.run([program], input=script, capture_output=True, timeout=SECONDS)
 
 
@@ -72,7 +72,7 @@ def paired(wanted, lines):
 
 def differs(program, lines, answers):
     """Where a program answers lines otherwise than told."""
-    ran = done(program, "".join(f"{line}\n" for line in lines).encode())
+    ran = run_program(program, "".join(f"{line}\n" for line in lines).encode())
     for number, line, wanted, found in paired(answers, ran.stdout.decode().splitlines()):
         if wanted != found:
             more = f"wanted {wanted!r}, found {found!r}" if isinstance(wanted, str) else f"too few {sorted(wanted - found)}, too many {sorted(found - wanted)}"
@@ -113,7 +113,7 @@ def scripts(program):
 def bad_lines(program):
     """What was wrong with how bad lines end."""
     for line in BAD:
-        ran = done(program, GOOD + line + b"\nshow 1\n")
+        ran = run_program(program, GOOD + line + b"\nshow 1\n")
         ended = re.fullmatch(rb"line 5: [ -~]+\n", ran.stderr) if line != b"\xff" else ran.stderr
         if ran.returncode != (2 if line != b"\xff" else 4) or ran.stdout or not ended:
             yield f"{program.name}: the bad line {line!r}: status {ran.returncode}, wrote {ran.stdout!r}, and on the standard error {ran.stderr!r}"

@@ -37,7 +37,7 @@ WORDS = {word: [str(HERE.parent / f"{word}.json")] for word in ("cases", "otel_c
 SECONDS = 1800
 
 
-def done(*command):
+def call(*command):
     """Runs a command, and tells its output where it fails."""
     given = {**os.environ, "ASAN_OPTIONS": "detect_leaks=1:quarantine_size_mb=16"}
     told = subprocess.run([str(word) for word in command], stdin=subprocess.DEVNULL, stdout=subprocess.PIPE, stderr=subprocess.STDOUT,
@@ -55,17 +55,17 @@ def curl():
     return ["-DWITH_CURL", *told.split()]
 
 
-def built(kit, room, compiler, source, flags):
+def compile_program(kit, room, compiler, source, flags):
     """A program, compiled over the kit."""
     program = room / "program"
     more = curl() if source.stem in ("readers", "first_of") else []
-    done(compiler, *FLAGS, *flags, f"-I{kit}/include", source, f"-L{kit}/lib", "-lkotskhin", "-pthread", *more, "-o", program)
+    call(compiler, *FLAGS, *flags, f"-I{kit}/include", source, f"-L{kit}/lib", "-lkotskhin", "-pthread", *more, "-o", program)
     return program
 
 
-def ran(kit, room, compiler, source, flags, words=()):
+def run_program(kit, room, compiler, source, flags, words=()):
     """What a program prints that is compiled over the kit."""
-    return done(built(kit, room, compiler, source, flags), *words)
+    return call(compile_program(kit, room, compiler, source, flags), *words)
 
 
 def plugin(kit, room, compiler, flags):
@@ -73,8 +73,8 @@ def plugin(kit, room, compiler, flags):
     libraries = [room / f"lib{visibility}.so" for visibility in ("hidden", "default")]
     for library in libraries:
         more = ["-shared", "-fPIC", f"-fvisibility={library.stem.removeprefix('lib')}", "-o", library]
-        done(compiler, *FLAGS, *flags, f"-I{kit}/include", HERE / "plugin_library.cpp", f"-L{kit}/lib", "-lkotskhin", "-pthread", *more)
-    return ran(kit, room, compiler, HERE / "plugin.cpp", [*flags, "-ldl"], libraries)
+        call(compiler, *FLAGS, *flags, f"-I{kit}/include", HERE / "plugin_library.cpp", f"-L{kit}/lib", "-lkotskhin", "-pthread", *more)
+    return run_program(kit, room, compiler, HERE / "plugin.cpp", [*flags, "-ldl"], libraries)
 
 
 def misuse(kit, compiler):
@@ -101,13 +101,13 @@ def page(kit, room, compiler):
             sys.exit(f"docs/use/CPP.md: a program is not {source.relative_to(TOP)}")
     line = re.search(r"^c\+\+( -std=c\+\+17 \$R.*)", text, re.M)[1]
     given = f"cd {room}; R={TOP} PKG_CONFIG_PATH={kit}/lib/pkgconfig; export PKG_CONFIG_PATH; {compiler}"
-    if (told := done("sh", "-ec", given + line)) != first:
+    if (told := call("sh", "-ec", given + line)) != first:
         sys.exit(f"docs/use/CPP.md: its first program prints\n{told}")
-    if (told := ran(kit, room, compiler, sources[2], [])) != third:
+    if (told := run_program(kit, room, compiler, sources[2], [])) != third:
         sys.exit(f"docs/use/CPP.md: its third program prints\n{told}")
     if not there.has("C++", "pkg-config", "libcurl"):
         return
-    program = built(kit, room, compiler, sources[1], [])
+    program = compile_program(kit, room, compiler, sources[1], [])
 
     def run(*words):
         return subprocess.run([program, *words], stdin=subprocess.DEVNULL, capture_output=True, timeout=SECONDS, check=False).returncode
@@ -122,11 +122,11 @@ def tidy(kit):
         return
     for name in ("otel.cpp", "first_of.cpp"):
         if "first_of" not in name or there.has("C++", "pkg-config", "libcurl"):
-            done("clang-tidy", "--quiet", TOP / "sdk" / "cpp" / name, "--", "-std=c++17", f"-I{TOP}/sdk/cpp", f"-I{kit}/include")
+            call("clang-tidy", "--quiet", TOP / "sdk" / "cpp" / name, "--", "-std=c++17", f"-I{TOP}/sdk/cpp", f"-I{kit}/include")
     print("clang-tidy finds nothing")
 
 
-def told_of(kit, room, what, compiler, flags):
+def try_word(kit, room, what, compiler, flags):
     """What one of the words comes to, by a compiler."""
     if what == "page":
         return page(kit, room, compiler) or what
@@ -134,7 +134,7 @@ def told_of(kit, room, what, compiler, flags):
         return plugin(kit, room, compiler, flags)
     if what == "misuse":
         return misuse(kit, compiler)
-    return ran(kit, room, compiler, HERE / f"{what}.cpp", flags, WORDS.get(what, ()))
+    return run_program(kit, room, compiler, HERE / f"{what}.cpp", flags, WORDS.get(what, ()))
 
 
 def main():
@@ -146,7 +146,7 @@ def main():
             ways = [("g++", [] if what in PLAIN else ASAN), ("clang++", [])] + [("clang++", TSAN)] * (what in THREADED)
             for compiler, flags in ways:
                 if there.has("C++", compiler):
-                    print(what, compiler, *flags, told_of(kit, pathlib.Path(made), what, compiler, flags).strip(), flush=True)
+                    print(what, compiler, *flags, try_word(kit, pathlib.Path(made), what, compiler, flags).strip(), flush=True)
     return 0
 
 
