@@ -30,9 +30,9 @@ WIDE = 140
 MADE = "Made by sdk/declarations.py of what crates/kit_c exports."
 # What is exported.
 CALLS, CODES, ANSWERS = list(exports.exports()), exports.codes(), exports.answers()
-NUMBERS = {it.name for it in CODES}
-KINDS = [it for it in exports.structs() if it.is_kind]
-TOLD = [it for it in exports.structs() if not it.is_kind]
+NUMBERS = {code.name for code in CODES}
+KINDS = [struct for struct in exports.structs() if struct.is_kind]
+TOLD = [struct for struct in exports.structs() if not struct.is_kind]
 
 
 def snake(name):
@@ -45,7 +45,7 @@ def item_of(kind):
     return (C_TYPES[kind], kind) if kind in C_TYPES else (snake(kind), kind.removeprefix("Kit"))
 
 
-def crossing(one):
+def cross(one):
     """A parameter as it crosses: (name, C type, Rust type) for each word of the machine."""
     name, kind = C_NAMES.get(one.name, one.name), one.kind
     if found := re.fullmatch(r"&(mut )?\[(\w+)\]", kind):
@@ -61,7 +61,7 @@ def crossing(one):
 
 
 def words_of(call):
-    return [word for one in call.given for word in crossing(one)]
+    return [word for one in call.given for word in cross(one)]
 
 
 def prototype(call):
@@ -70,23 +70,24 @@ def prototype(call):
     return C_TYPES[call.result] if call.result else "void", given
 
 
-def said_in_c(text):
+def to_c(text):
     """A line of a page as C says it: codes with their prefix, and no marks of code."""
-    return re.sub(r"`([^`]+)`", lambda it: f"KIT_{it[1]}" if it[1] in NUMBERS else it[1], text)
+    return re.sub(r"`([^`]+)`", lambda found: f"KIT_{found[1]}" if found[1] in NUMBERS else found[1], text)
 
 
 def comment(paragraphs):
     """A comment of paragraphs, of which a first one that is short stands alone."""
-    lines = [line for it in paragraphs for line in (*textwrap.wrap(it, WIDE - 3, break_long_words=False, break_on_hyphens=False), "")][:-1]
-    text = "\n".join(f" * {it}".rstrip() for it in lines)
+    wrapper = textwrap.TextWrapper(WIDE - 3, break_long_words=False, break_on_hyphens=False)
+    lines = [line for paragraph in paragraphs for line in (*wrapper.wrap(paragraph), "")][:-1]
+    text = "\n".join(f" * {line}".rstrip() for line in lines)
     return f"/*{text[2:]} */"
 
 
 def page(call):
     """The page of a call in C, and the codes of those that it names."""
-    told = [said_in_c(it) for it in call.page]
-    if any(re.search(r"as `kit_\w+` is", it) for it in call.page):
-        told.append("In all: " + ", ".join(f"KIT_{it}" for it in ANSWERS[call.name]) + ".")
+    told = [to_c(line) for line in call.page]
+    if any(re.search(r"as `kit_\w+` is", line) for line in call.page):
+        told.append("In all: " + ", ".join(f"KIT_{answer}" for answer in ANSWERS[call.name]) + ".")
     return comment(told)
 
 
@@ -94,24 +95,25 @@ def declaration(call):
     """A call as C declares it, below its page."""
     result, given = prototype(call)
     head = f"{'KIT_CHECKED' if call.result == 'i32' else 'KIT_CALL'} {result} {call.name}("
-    lines = textwrap.wrap(", ".join(it.replace(" ", "\0") for it in given) or "void", WIDE - len(head) - 2, break_long_words=False)
+    parameters = ", ".join(parameter.replace(" ", "\0") for parameter in given) or "void"
+    lines = textwrap.wrap(parameters, WIDE - len(head) - 2, break_long_words=False)
     text = ("\n" + " " * len(head)).join(lines).replace("\0", " ")
     return f"{page(call)}\n{head}{text});"
 
 
-def of_modules(modules):
+def declare_modules(modules):
     """The calls of modules, each with its page."""
-    return "\n\n".join(declaration(it) for module in modules for it in CALLS if it.module == module)
+    return "\n\n".join(declaration(call) for module in modules for call in CALLS if call.module == module)
 
 
 def kinds_in_c():
     """The kinds of handles, each with what gives it up."""
     made = []
-    for it in KINDS:
-        name = snake(it.name)
+    for kind in KINDS:
+        name = snake(kind.name)
         made.append(
-            f"{comment([it.page[0]])}\ntypedef struct {name} {{ kit_handle handle; }} {name};\n"
-            f"KIT_SIZE({name}, 16);\nstatic inline KIT_CALL void {name}_free({name} *it) {{ kit_free(&it->handle); }}"
+            f"{comment([kind.page[0]])}\ntypedef struct {name} {{ kit_handle handle; }} {name};\n"
+            f"KIT_SIZE({name}, 16);\nstatic inline KIT_CALL void {name}_free({name} *own) {{ kit_free(&own->handle); }}"
         )
     return "\n\n".join(made)
 
@@ -128,13 +130,13 @@ def size_of(struct):
 def structs_in_c():
     """What calls tell in structs, each with its size."""
     made = []
-    for it in TOLD:
-        name = snake(it.name)
+    for struct in TOLD:
+        name = snake(struct.name)
         fields = []
-        for field, kind, said in it.fields:
-            fields.append(f"    {C_TYPES[kind]} {field};" + (f" {comment([said_in_c(' '.join(said))])}" if said else ""))
-        made += [comment([said_in_c(part) for part in it.page]), f"typedef struct {name} {{", *fields, f"}} {name};"]
-        made += [f"KIT_SIZE({name}, {size_of(it)});", ""]
+        for field, kind, said in struct.fields:
+            fields.append(f"    {C_TYPES[kind]} {field};" + (f" {comment([to_c(' '.join(said))])}" if said else ""))
+        made += [comment([to_c(part) for part in struct.page]), f"typedef struct {name} {{", *fields, f"}} {name};"]
+        made += [f"KIT_SIZE({name}, {size_of(struct)});", ""]
     return "\n".join(made[:-1])
 
 
@@ -144,17 +146,17 @@ def places(code):
 
 
 def codes_in_c():
-    wide = max(len(f"{it.name} = {it.number},") for it in CODES)
+    wide = max(len(f"{code.name} = {code.number},") for code in CODES)
     lines = []
-    for before, it in zip([CODES[0], *CODES], CODES):
-        if it.number // 10 != before.number // 10:
+    for before, code in zip([CODES[0], *CODES], CODES):
+        if code.number // 10 != before.number // 10:
             lines.append("")
-        lines.append(f"    KIT_{f'{it.name} = {it.number},':{wide}} /* {it.says}{places(it)} */")
+        lines.append(f"    KIT_{f'{code.name} = {code.number},':{wide}} /* {code.says}{places(code)} */")
     return "\n".join(lines)
 
 
 def names_in_c():
-    return "\n".join(f'    case KIT_{it.name}: return "KIT_{it.name}";' for it in CODES)
+    return "\n".join(f'    case KIT_{code.name}: return "KIT_{code.name}";' for code in CODES)
 
 
 def whole_version():
@@ -175,11 +177,11 @@ def header():
         word, *modules = found[1].split()
         if word == "calls":
             placed.extend(modules)
-            return of_modules(modules)
+            return declare_modules(modules)
         return {"version": version_in_c, "kinds": kinds_in_c, "structs": structs_in_c, "codes": codes_in_c, "names": names_in_c}[word]()
 
     text = re.sub(r"^@([\w ]+)@$", of, (SDK / "c" / "kotskhin.h.in").read_text(encoding="utf-8"), flags=re.M)
-    if wrong := sorted({it.module for it in CALLS} ^ set(placed)):
+    if wrong := sorted({call.module for call in CALLS} ^ set(placed)):
         sys.exit(f"kotskhin.h.in: not once each: the modules {', '.join(wrong)}")
     return text
 
@@ -188,19 +190,21 @@ def in_rust():
     """The declarations for Rust."""
     lines = [f"//! {MADE}", "use crate::Handle;", ""]
     lines += [f"pub const VERSION: u32 = {whole_version()};", ""]
-    lines += [f"/// {it.says[:1].upper() + it.says[1:]}.\npub const {it.name}: i32 = {it.number};" for it in CODES]
+    lines += [f"/// {code.says[:1].upper() + code.says[1:]}.\npub const {code.name}: i32 = {code.number};" for code in CODES]
     lines += ["", "/// The words for the places that a code tells.", "pub const fn places(code: i32) -> &'static [&'static str] {"]
     lines.append("    match code {")
-    for words in dict.fromkeys(it.places for it in CODES if it.places):
-        lines.append(f"        {' | '.join(it.name for it in CODES if it.places == words)} => &[{', '.join(map(quoted, words))}],")
+    for words in dict.fromkeys(code.places for code in CODES if code.places):
+        named = " | ".join(code.name for code in CODES if code.places == words)
+        arm = f"{named} => &[{', '.join(map(quote, words))}],"
+        lines += textwrap.wrap(arm, WIDE, initial_indent=" " * 8, subsequent_indent=" " * 12, break_long_words=False)
     lines += ["        _ => &[],", "    }", "}"]
-    for it in KINDS:
-        lines += ["", f"kind!(\n    /// {it.page[0]}\n    {it.name.removeprefix('Kit')}\n);"]
-    for it in TOLD:
-        fields = "\n".join(f"    pub {field}: {kind}," for field, kind, _ in it.fields)
-        said = "\n".join(f"/// {line}" for line in textwrap.wrap(" ".join(it.page), WIDE - 4))
+    for kind in KINDS:
+        lines += ["", f"kind!(\n    /// {kind.page[0]}\n    {kind.name.removeprefix('Kit')}\n);"]
+    for struct in TOLD:
+        fields = "\n".join(f"    pub {field}: {kind}," for field, kind, _ in struct.fields)
+        said = "\n".join(f"/// {line}" for line in textwrap.wrap(" ".join(struct.page), WIDE - 4))
         lines += ["", said, "#[repr(C)]", "#[derive(Clone, Copy, Debug, Default)]"]
-        lines += [f"pub struct {it.name.removeprefix('Kit')} {{", fields, "}"]
+        lines += [f"pub struct {struct.name.removeprefix('Kit')} {{", fields, "}"]
     lines += ["", 'unsafe extern "C" {']
     for call in CALLS:
         given = "".join(f"\n        {name}: {kind}," for name, _, kind in words_of(call))
@@ -211,36 +215,36 @@ def in_rust():
 
 def in_go():
     """The codes for Go, laid out as gofmt does."""
-    told = [it for it in CODES if it.number]
-    names = {it.name: "Err" + "".join(word.capitalize() for word in it.name.split("_")) for it in told}
+    told = [code for code in CODES if code.number]
+    names = {code.name: "Err" + "".join(word.capitalize() for word in code.name.split("_")) for code in told}
     wide = max(map(len, names.values()))
     lines = ["// Code generated by sdk/declarations.py of what crates/kit_c exports. DO NOT EDIT.", "", "package kotskhin", ""]
     lines += ["// Version is that of this module, and of the library that it was made for."]
-    lines += [f"const Version = {quoted(version.VERSION)}", "", "const ("]
-    lines += [f"\t{names[it.name]:{wide}} Code = {it.number}" for it in told]
+    lines += [f"const Version = {quote(version.VERSION)}", "", "const ("]
+    lines += [f"\t{names[code.name]:{wide}} Code = {code.number}" for code in told]
     lines += [")", "", "// The name of each code, what it says, and the words for the places that it tells."]
     lines += ["var codes = map[Code]struct {"]
     lines += ["\tname, says string", "\tplaces     []string", "}{"]
-    for it in told:
-        words = f"[]string{{{', '.join(quoted(word) for word in it.places)}}}" if it.places else "nil"
-        lines.append(f"\t{names[it.name] + ':':{wide + 1}} {{{quoted(it.name)}, {quoted(it.says)}, {words}}},")
+    for code in told:
+        words = f"[]string{{{', '.join(quote(word) for word in code.places)}}}" if code.places else "nil"
+        lines.append(f"\t{names[code.name] + ':':{wide + 1}} {{{quote(code.name)}, {quote(code.says)}, {words}}},")
     return "\n".join([*lines, "}"]) + "\n"
 
 
-def quoted(text):
+def quote(text):
     return '"' + text.replace("\\", "\\\\").replace('"', '\\"') + '"'
 
 
-def listed(words):
+def write_tuple(words):
     """A tuple of texts, as Python writes it."""
-    return "(" + ", ".join(map(quoted, words)) + "," * (len(words) == 1) + ")"
+    return "(" + ", ".join(map(quote, words)) + "," * (len(words) == 1) + ")"
 
 
 def codes_in_python():
     """The codes for Python."""
     lines = [f'"""{MADE}"""', "", f"VERSION = {whole_version()}", ""]
     lines += ["# Each code: its name, its number, what it says, and the words for the places that it tells.", "CODES = ("]
-    lines += [wrapped("    (", [quoted(it.name), str(it.number), quoted(it.says), listed(it.places)], "),") for it in CODES]
+    lines += [fill("    (", [quote(code.name), str(code.number), quote(code.says), write_tuple(code.places)], "),") for code in CODES]
     return "\n".join([*lines, ")"]) + "\n"
 
 
@@ -249,7 +253,7 @@ def struct_in_python(struct):
     lines = [f"class {struct.name.replace('Kit', 'Raw', 1)}(Structure):", f'    """The struct {snake(struct.name)} of C."""', ""]
     lines += [f"    {field}: {'bool' if kind == 'bool' else 'int'}" for field, kind, _ in struct.fields]
     lines += ["", "    _fields_ = ["]
-    lines += [f"        ({quoted(field)}, c_{PYTHON_TYPES[kind]})," for field, kind, _ in struct.fields]
+    lines += [f"        ({quote(field)}, c_{PYTHON_TYPES[kind]})," for field, kind, _ in struct.fields]
     return "\n".join([*lines, "    ]"])
 
 
@@ -264,7 +268,7 @@ def python_type(name, kind):
         return "c_char_p", "Given", name
     if of in RUST_NAMES:
         return f"POINTER(c_{PYTHON_TYPES[RUST_NAMES[of]]})", "Given", name
-    told = [it for it in TOLD if snake(it.name) == of]
+    told = [struct for struct in TOLD if snake(struct.name) == of]
     return f"POINTER({told[0].name.replace('Kit', 'Raw', 1) if told else 'Raw'})", "Given", name
 
 
@@ -272,25 +276,25 @@ def call_in_python(call):
     """The function of a call, and the one that holds what is given to its types and raises what is refused."""
     safe = {name: f"{name}_" if keyword.iskeyword(name) else name for name, _, _ in words_of(call)}
     words = [(safe[name], *python_type(safe[name], kind)) for name, kind, _ in words_of(call)]
-    types, result = [it for _, it, _, _ in words], f"c_{PYTHON_TYPES[call.result]}" if call.result else "None"
+    types, result = [kind for _, kind, _, _ in words], f"c_{PYTHON_TYPES[call.result]}" if call.result else "None"
     if call.result != "i32":
-        return wrapped(f"{call.name} = function(", [quoted(call.name), result, *types], ")")
+        return fill(f"{call.name} = function(", [quote(call.name), result, *types], ")")
     places = [name for name, *_ in words if name in ("place", "second")]
     given = words[: len(words) - len(places)]
-    head = wrapped(f"_{call.name} = function(", [quoted(call.name), result, *types], ")")
-    taken = wrapped(f"def {call.name}(", [f"{name}: {of}" for name, _, of, _ in given], ") -> None:")
+    head = fill(f"_{call.name} = function(", [quote(call.name), result, *types], ")")
+    taken = fill(f"def {call.name}(", [f"{name}: {of}" for name, _, of, _ in given], ") -> None:")
     check = ("check", "check_at", "check_at_both")[len(places)]
-    return f"{head}\n\n\n{taken}\n" + wrapped(f"    {check}(", [f"_{call.name}", *(held for *_, held in given)], ")")
+    return f"{head}\n\n\n{taken}\n" + fill(f"    {check}(", [f"_{call.name}", *(held for *_, held in given)], ")")
 
 
-def wrapped(front, words, end):
+def fill(front, words, end):
     """Words with commas between, in a line, or where that is long in as many as they fill."""
     line = f"{front}{', '.join(words)}{end}"
     if len(line) <= WIDE:
         return line
     indent = " " * (len(front) - len(front.lstrip()))
-    lines = textwrap.wrap(", ".join(it.replace(" ", "\0") for it in words) + ",", WIDE - 4 - len(indent), break_long_words=False)
-    return "\n".join([front, *(f"{indent}    {it}".replace("\0", " ") for it in lines), f"{indent}{end}"])
+    lines = textwrap.wrap(", ".join(word.replace(" ", "\0") for word in words) + ",", WIDE - 4 - len(indent), break_long_words=False)
+    return "\n".join([front, *(f"{indent}    {line}".replace("\0", " ") for line in lines), f"{indent}{end}"])
 
 
 def calls_in_python():
@@ -318,9 +322,9 @@ def files():
 def of_archive(path):
     """What an archive lacks of the exports, and what it has beside them."""
     told = subprocess.run(["nm", "--defined-only", "-g", path], capture_output=True, text=True, check=True).stdout
-    defined, wanted = set(re.findall(r" T (kit_\w+)$", told, re.M)), {it.name for it in CALLS}
-    missing = [f"{path}: missing: {it}" for it in sorted(wanted - defined)]
-    return missing + [f"{path}: not of kit_c: {it}" for it in sorted(defined - wanted)]
+    defined, wanted = set(re.findall(r" T (kit_\w+)$", told, re.M)), {call.name for call in CALLS}
+    missing = [f"{path}: missing: {name}" for name in sorted(wanted - defined)]
+    return missing + [f"{path}: not of kit_c: {name}" for name in sorted(defined - wanted)]
 
 
 def main():
@@ -329,8 +333,8 @@ def main():
     asked.add_argument("--archive", type=pathlib.Path, help="an archive of kit_c, which is held to them")
     given = asked.parse_args()
     wrong = version.others()
-    wrong += [f"{it.name}: it has no page" for it in CALLS if not it.page]
-    wrong += [f"{it.name}: kit_code_text says nothing of it" for it in CODES if not it.says]
+    wrong += [f"{call.name}: it has no page" for call in CALLS if not call.page]
+    wrong += [f"{code.name}: kit_code_text says nothing of it" for code in CODES if not code.says]
     for name, text in files():
         file = SDK / name
         if given.check:

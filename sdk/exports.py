@@ -87,8 +87,8 @@ def sources():
 
 def page_of(text):
     """The paragraphs of a `///` comment."""
-    lines = [it.strip().removeprefix("///").strip() for it in text.strip().splitlines()]
-    return tuple(" ".join(it.split()) for it in "\n".join(lines).split("\n\n") if it.strip())
+    lines = [line.strip().removeprefix("///").strip() for line in text.strip().splitlines()]
+    return tuple(" ".join(paragraph.split()) for paragraph in "\n".join(lines).split("\n\n") if paragraph.strip())
 
 
 def clauses(text):
@@ -100,9 +100,9 @@ def clauses(text):
 def kept(contract):
     """The parameters of which a contract says that they stay as they are, whatever is answered."""
     for clause in clauses(contract):
-        parts = [KEPT.search(it.strip().strip("()")) for it in clause.split(" × ")]
+        parts = [KEPT.search(part.strip().strip("()")) for part in clause.split(" × ")]
         if "→" not in clause and all(parts):
-            yield from (it[2] for it in parts)
+            yield from (found[2] for found in parts)
 
 
 def exports():
@@ -112,10 +112,10 @@ def exports():
         if len(found) != text.count("#[unsafe(no_mangle)]"):
             raise ValueError(f"{module}.rt: an export that is not read: {len(found)} are")
         for page, name, given, result, contract in found:
-            words = [it.split(":", 1) for it in re.split(r",\s*", given.strip().rstrip(",")) if it]
+            words = [pair.split(":", 1) for pair in re.split(r",\s*", given.strip().rstrip(",")) if pair]
             stays = set(kept(contract)) - {word for call, word in APART if call == name}
             given = tuple(Parameter(word.strip(), kind.strip(), word.strip() in stays) for word, kind in words)
-            yield Call(name, module, tuple(it for it in given if it.kind != "Global"), result, page_of(page))
+            yield Call(name, module, tuple(one for one in given if one.kind != "Global"), result, page_of(page))
 
 
 def structs():
@@ -154,7 +154,7 @@ def places():
     coded = (CRATE / "specs" / "Codes.antt").read_text(encoding="utf-8")
     renamed = {(of, name): code.upper() for of, name, code in RENAMED.findall(coded)}
     reasons = [renamed.get(("reasons", name), upper(name)) for name in REASON.findall(coded)]
-    told = {it: [OF_REQUESTS.get(it, "point")] for it in reasons}
+    told = {reason: [OF_REQUESTS.get(reason, "point")] for reason in reasons}
     lines = PLACE.findall((CRATE / "specs" / "Places.antt").read_text(encoding="utf-8"))
     for second, of, name, word in sorted(lines, key=lambda line: line[0]):
         words = told.setdefault(renamed.get((of, name), upper(name)), [])
@@ -175,14 +175,14 @@ def version():
     for _, text in sources():
         if "fn kit_version" in text:
             told = dict(VERSION.findall(text))
-            return tuple(int(told[it]) for it in ("MAJOR", "MINOR", "PATCH"))
+            return tuple(int(told[part]) for part in ("MAJOR", "MINOR", "PATCH"))
     return (0, 0, 0)
 
 
 def answers():
     """The codes that each call may answer beside OK, in the order of its page; those of the calls that it names stand in their place."""
-    pages = {it.name: " ".join(part for part in it.page if part.startswith("Refused") or " Refused" in part) for it in exports()}
-    named = {it.name: it.number for it in codes()}
+    pages = {call.name: " ".join(part for part in call.page if part.startswith("Refused") or " Refused" in part) for call in exports()}
+    named = {code.name: code.number for code in codes()}
     found = {}
 
     def of(name, seen=()):
@@ -191,7 +191,7 @@ def answers():
         told = []
         for begin, end, code, other in re.findall(r"`([A-Z_]+)` to `([A-Z_]+)`|`([A-Z_]+)`|as `(kit_\w+)` is", pages[name]):
             if begin:
-                told += [it for it in named if named[begin] <= named[it] <= named[end]]
+                told += [name for name in named if named[begin] <= named[name] <= named[end]]
             elif other:
                 told += of(other, (*seen, name))
             elif code in named:

@@ -27,4 +27,5 @@ def others():
     """What says another version."""
     told = {name: re.findall(pattern, (TOP / name).read_text(encoding="utf-8"), re.M) for name, pattern in PLACES.items()}
     told["crates/kit_c/src/version.rt"] = [".".join(map(str, exports.version()))]
-    return [f"{name}: {', '.join(it) or 'no version'} is not {VERSION}, as VERSION has it" for name, it in told.items() if it != [VERSION]]
+    wrong = {name: found for name, found in told.items() if found != [VERSION]}
+    return [f"{name}: {', '.join(found) or 'no version'} is not {VERSION}, as VERSION has it" for name, found in wrong.items()]

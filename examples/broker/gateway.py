@@ -44,7 +44,7 @@ def main():
         came += entries([[EXPORTS, redis("XAUTOCLAIM", EXPORTS, GROUP, me, IDLE_MILLISECONDS, "0", "COUNT", 10)[1]]])
         for _, export in came:
             gateway.take(Export.decode(export))
-        for peer in [int(it) for it in redis("SMEMBERS", PEERS) if came]:
+        for peer in [int(one) for one in redis("SMEMBERS", PEERS) if came]:
             if peer != me:
                 line.send(INBOX(peer), gateway.send(peer).encode())
         line.flush()

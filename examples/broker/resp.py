@@ -13,8 +13,8 @@ class Redis:
 
     def __call__(self, *words):
         """Sends a command, and reads its answer: bytes, a number, a list of answers, or nothing."""
-        words = [it if isinstance(it, bytes) else str(it).encode() for it in words]
-        self.socket.sendall(b"*%d\r\n" % len(words) + b"".join(b"$%d\r\n%s\r\n" % (len(it), it) for it in words))
+        words = [word if isinstance(word, bytes) else str(word).encode() for word in words]
+        self.socket.sendall(b"*%d\r\n" % len(words) + b"".join(b"$%d\r\n%s\r\n" % (len(word), word) for word in words))
         return self.answer()
 
     def answer(self):

@@ -47,7 +47,7 @@ def broker():
     with tempfile.TemporaryDirectory() as room:
         port = free_port()
         command = ["redis-server", "--port", port, "--bind", "127.0.0.1", "--save", "", "--appendonly", "no", "--dir", room]
-        server = subprocess.Popen([str(it) for it in command], stdin=subprocess.DEVNULL, stdout=subprocess.DEVNULL)
+        server = subprocess.Popen([str(word) for word in command], stdin=subprocess.DEVNULL, stdout=subprocess.DEVNULL)
         try:
             yield port, client(port, server)
         finally:
@@ -99,8 +99,8 @@ def tables(port, redis):
     """What each gateway printed at the end."""
     redis("XGROUP", "CREATE", EXPORTS, GROUP, "0", "MKSTREAM")
     with Processes(port) as processes:
-        gateways = {it: processes.start("gateway.py", it) for it in (1, 2, KILLED)}
-        workers = {it: processes.start("worker.py", it, *["dies"] * (it == LATE_WORKER)) for it in WORKERS}
+        gateways = {id_: processes.start("gateway.py", id_) for id_ in (1, 2, KILLED)}
+        workers = {number: processes.start("worker.py", number, *["dies"] * (number == LATE_WORKER)) for number in WORKERS}
         ended(workers[LATE_WORKER], DIED)
         workers[LATE_WORKER] = processes.start("worker.py", LATE_WORKER)
         gateways[KILLED].kill()
@@ -112,14 +112,14 @@ def tables(port, redis):
         for worker in workers.values():
             ended(worker)
         redis("SET", ALL, "1")
-        return {it: ended(gateway) for it, gateway in gateways.items()}
+        return {number: ended(gateway) for number, gateway in gateways.items()}
 
 
 def told():
     """What each gateway printed at the end, and what each incarnation counted. A port that was free may be taken once it is used."""
     for _ in range(5):
         with contextlib.suppress(BrokerEnded), broker() as (port, redis):
-            return tables(port, redis), [int(it.split()[1]) for it in redis("HGETALL", COUNTED)[1::2]]
+            return tables(port, redis), [int(text.split()[1]) for text in redis("HGETALL", COUNTED)[1::2]]
     raise SystemExit("the broker does not start")
 
 

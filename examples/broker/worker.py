@@ -17,7 +17,7 @@ def main():
     line = Line(redis, seed=instance)
     start = time = nanoseconds()
     writer = Writer(Plan([(SCOPE, NAME, UNIT, COUNTER)]), SERVICE, instance, start)
-    numbers = [writer.hold(0, Attributes({"route": it})) for it in ("/", "/cart", "/pay")]
+    numbers = [writer.hold(0, Attributes({"route": route})) for route in ("/", "/cart", "/pay")]
     counted = 0
     for half in (1, 2):
         for _ in range(COLLECTIONS):

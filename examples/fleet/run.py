@@ -48,9 +48,9 @@ path = "worker.rs"
 def free_ports(count):
     with contextlib.ExitStack() as stack:
         sockets = [stack.enter_context(socket.socket()) for _ in range(count)]
-        for it in sockets:
-            it.bind((ADDRESS, 0))
-        return [it.getsockname()[1] for it in sockets]
+        for listening in sockets:
+            listening.bind((ADDRESS, 0))
+        return [listening.getsockname()[1] for listening in sockets]
 
 
 def built(kit, room, languages):
@@ -81,31 +81,31 @@ class Fleet:
     def __init__(self, kit, program, commands, room):
         ports = free_ports(4)
         self.scraper, ports = ports[3], ports[:3]
-        self.urls = [f"http://{ADDRESS}:{it}" for it in ports]
+        self.urls = [f"http://{ADDRESS}:{port}" for port in ports]
         flags = ("--gossip-interval", "200ms", "--gossip-longest-pause", "2s")
         self.gateways = [
-            Gateway(program, number, ADDRESS, [it for it in self.urls if it != self.urls[number]], room / f"state{number}",
+            Gateway(program, number, ADDRESS, [url for url in self.urls if url != self.urls[number]], room / f"state{number}",
                     room / f"gateway{number}.log", flags=flags, port=port)
             for number, port in enumerate(ports)
         ]
-        self.targets = [f"{ADDRESS}:{it}" for it in ports]
+        self.targets = [f"{ADDRESS}:{port}" for port in ports]
         self.kit, self.commands, self.workers = kit, commands, []
 
     def __enter__(self):
-        for it in self.gateways:
-            it.start()
+        for gateway in self.gateways:
+            gateway.start()
         return self
 
     def __exit__(self, *_):
-        for it in self.workers:
-            it.kill()
-            it.wait()
-        for it in self.gateways:
-            it.kill()
+        for worker in self.workers:
+            worker.kill()
+            worker.wait()
+        for gateway in self.gateways:
+            gateway.kill()
 
     def ready(self):
-        for it in self.gateways:
-            until(it.is_ready, lambda: f"a gateway is not ready\n{it.tail()}")
+        for gateway in self.gateways:
+            until(gateway.is_ready, lambda: f"a gateway is not ready\n{gateway.tail()}")
 
     def work(self, language, service):
         """A worker begins. It knows the gateways in an order of its own."""
@@ -117,10 +117,10 @@ class Fleet:
     def counted(self):
         """What the workers counted, once they end."""
         total = 0
-        for it in self.workers:
-            printed, _ = it.communicate(timeout=600)
-            if it.returncode:
-                raise Fault(f"a worker ended with status {it.returncode}")
+        for worker in self.workers:
+            printed, _ = worker.communicate(timeout=600)
+            if worker.returncode:
+                raise Fault(f"a worker ended with status {worker.returncode}")
             print(f"  {printed.strip()}")
             total += int(printed.split()[-1])
         return total
@@ -152,7 +152,7 @@ def answered(scrapes):
     for query in QUERIES:
         print(f"PromQL: {query}")
         for metric, value in scrapes.ask(query):
-            labels = ", ".join(f"{name} {it}" for name, it in sorted(metric.items()) if name not in ("__name__", "job"))
+            labels = ", ".join(f"{name} {value}" for name, value in sorted(metric.items()) if name not in ("__name__", "job"))
             print(f"  {labels + ': ' if labels else ''}{value:g}")
 
 
@@ -174,7 +174,8 @@ def main():
                 fleet.work("go", "till")
                 print("the workers counted:")
                 counted = fleet.counted()
-                until(lambda: totals(scrapes) == {it: counted for it in fleet.targets}, lambda: f"Prometheus answers {totals(scrapes)}")
+                wanted = dict.fromkeys(fleet.targets, counted)
+                until(lambda: totals(scrapes) == wanted, lambda: f"Prometheus answers {totals(scrapes)}")
                 answered(scrapes)
     print(f"each of {len(fleet.gateways)} gateways says what {len(fleet.workers)} workers counted: {counted}")
 

@@ -20,8 +20,8 @@ func main() {
 		log.Fatal(err)
 	}
 	var exporters []metric.Exporter
-	for _, it := range gateways {
-		exporters = append(exporters, metric.HTTPBytesExporter(it+"/v1/exports", nil, nil))
+	for _, gateway := range gateways {
+		exporters = append(exporters, metric.HTTPBytesExporter(gateway+"/v1/exports", nil, nil))
 	}
 	quiet := metric.WithOnFailed(func(error) {})
 	reader := metric.NewPeriodicReader(metric.FirstOf(exporters...), metric.WithInterval(200*time.Millisecond), quiet)

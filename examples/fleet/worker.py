@@ -6,7 +6,7 @@ import time
 from kotskhin.metrics import FirstOf, HttpExporter, MeterProvider, PeriodicExportingMetricReader
 
 service, recordings, gateways = sys.argv[1], int(sys.argv[2]), sys.argv[3:]
-exporter = FirstOf(*(HttpExporter(f"{it}/v1/metrics") for it in gateways))
+exporter = FirstOf(*(HttpExporter(f"{gateway}/v1/metrics") for gateway in gateways))
 reader = PeriodicExportingMetricReader(exporter, export_interval_millis=200, on_failed=lambda fault: None)
 provider = MeterProvider({"service.name": service}, [reader])
 requests = provider.get_meter("fleet").create_counter("requests", unit="1")

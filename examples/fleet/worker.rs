@@ -10,8 +10,8 @@ fn main() -> Result<(), Box<dyn error::Error>> {
     let words: Vec<String> = env::args().collect();
     let (service, recordings) = (&words[1], words[2].parse::<u64>()?);
     let mut exporters: Vec<Box<dyn PushExporter>> = Vec::new();
-    for it in &words[3..] {
-        let exporter = HttpExporter::new(&format!("{it}/v1/metrics"))?;
+    for word in &words[3..] {
+        let exporter = HttpExporter::new(&format!("{word}/v1/metrics"))?;
         exporters.push(Box::new(exporter.with_timeout(Duration::from_secs(2))));
     }
     let reader = PeriodicReader::builder(FirstOf::new(exporters))

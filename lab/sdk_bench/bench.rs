@@ -20,7 +20,7 @@ type Done = Result<(), Error>;
 
 fn rounds() -> usize {
     let first = env::args().nth(1);
-    first.and_then(|it| it.parse().ok()).unwrap_or(25)
+    first.and_then(|word| word.parse().ok()).unwrap_or(25)
 }
 
 fn tell(name: &str, recordings: usize, mut run: impl FnMut() -> Done) -> Done {
@@ -48,7 +48,7 @@ fn by_threads<T: Send>(hands: &mut [T], record: impl Fn(&mut T) -> Done + Sync) 
             .collect();
         started
             .into_iter()
-            .try_for_each(|it| it.join().expect("it ends"))
+            .try_for_each(|thread| thread.join().expect("it ends"))
     })
 }
 

@@ -33,7 +33,7 @@ LINE = re.compile(r"(.{55}) *([\d.]+) +([\d.]+)\n")
 
 
 def run(*command, **given):
-    subprocess.run([str(it) for it in command], stdin=subprocess.DEVNULL, check=True, **given)
+    subprocess.run([str(word) for word in command], stdin=subprocess.DEVNULL, check=True, **given)
 
 
 def cpp(kit, room):
@@ -93,7 +93,7 @@ def by_turns(programs, turns):
                 for name, each in told(command, threads, **how).items():
                     figures.setdefault(name, []).append(each)
     for name, all_told in figures.items():
-        clock, processor = (f"{min(it):7.1f} ({statistics.median(it):.1f})" for it in zip(*all_told))
+        clock, processor = (f"{min(seconds):7.1f} ({statistics.median(seconds):.1f})" for seconds in zip(*all_told))
         print(f"{name:<55} {clock}, {processor}", flush=True)
 
 

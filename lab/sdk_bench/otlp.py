@@ -33,7 +33,7 @@ def built(room):
 
 def told(command):
     """What a program tells on either stream: names, each with its nanoseconds."""
-    done = subprocess.run([str(it) for it in command], stdin=subprocess.DEVNULL, capture_output=True, text=True, check=True)
+    done = subprocess.run([str(word) for word in command], stdin=subprocess.DEVNULL, capture_output=True, text=True, check=True)
     for line in done.stdout.splitlines():
         yield line[:55].strip(), float(line[55:])
     for name, each in re.findall(r"^(export [a-zA-Z ]+), \d+: ([\d.]+) ns each$", done.stderr, re.M):

@@ -27,7 +27,7 @@ ONE = {max(os.sched_getaffinity(0))}
 
 
 def run(*command, **given):
-    subprocess.run([str(it) for it in command], stdin=subprocess.DEVNULL, check=True, **given)
+    subprocess.run([str(word) for word in command], stdin=subprocess.DEVNULL, check=True, **given)
 
 
 def on_one_processor():
@@ -95,7 +95,7 @@ def main():
     turns = int(sys.argv[2]) if len(sys.argv) > 2 else TURNS
     with tempfile.TemporaryDirectory() as made:
         recordings, of_bytes = built(kit, pathlib.Path(made))
-        ways = [lambda it=it: told(it, str(ROUNDS), preexec_fn=on_one_processor) for it in recordings]
+        ways = [lambda recording=recording: told(recording, str(ROUNDS), preexec_fn=on_one_processor) for recording in recordings]
         by_turns([own, *ways] if KIT_BENCH.is_file() else ways, turns)
         for program in recordings:
             run(program, "25", "threads")

@@ -62,7 +62,7 @@ def point(value, attributes=b"", time=200):
 
 def points(count):
     """Points that differ in an attribute."""
-    return [point(7, block(7, block(1, b"k") + block(2, number(24) + number(it)))) for it in range(count)]
+    return [point(7, block(7, block(1, b"k") + block(2, number(24) + number(turn)))) for turn in range(count)]
 
 
 def twice(made):
@@ -83,7 +83,7 @@ def text(value, size=8):
 
 def scattered(count, size=8):
     """Attributes whose keys do not come in order."""
-    return b"".join(block(7, pair(text(it * 7919 % 1000003, size), b"v")) for it in range(count))
+    return b"".join(block(7, pair(text(turn * 7919 % 1000003, size), b"v")) for turn in range(count))
 
 
 def nested(size):
@@ -101,32 +101,32 @@ FULL = b"b" * 1024
 CASES = {
     "half of it a name, over many points": lambda n: resource(scope(b"s", metric(b"a" * (n // 2), twice(points(n // 60))))),
     "half of it a scope, over many metrics": lambda n: resource(
-        scope(b"a" * (n // 2), *[metric(text(it), [point(1)]) for it in range(n // 96)])),
+        scope(b"a" * (n // 2), *[metric(text(turn), [point(1)]) for turn in range(n // 96)])),
     "all of it a name, over 64 points": lambda n: resource(scope(b"s", metric(b"a" * n, twice(points(63))))),
-    "all of it a scope, over 64 metrics": lambda n: resource(scope(b"a" * n, *twice([metric(text(it), [point(1)]) for it in range(63)]))),
+    "all of it a scope, over 64 metrics": lambda n: resource(scope(b"a" * n, *twice([metric(text(turn), [point(1)]) for turn in range(63)]))),
     "names of 1,025 bytes, each over 64 points": lambda n: resource(
-        scope(b"s", *twice([metric(text(it, 1025), points(64)) for it in range(n // 2900)]))),
+        scope(b"s", *twice([metric(text(turn, 1025), points(64)) for turn in range(n // 2900)]))),
     "scope, name and unit of 1,024 bytes, over many points": lambda n: resource(
         scope(FULL, metric(FULL, twice(points(n // 30)), unit=FULL))),
     "a scope of 1,024 bytes, over many metrics": lambda n: resource(
-        scope(FULL, *twice([metric(text(it), [point(1)]) for it in range(n // 42)]))),
+        scope(FULL, *twice([metric(text(turn), [point(1)]) for turn in range(n // 42)]))),
     "many points": lambda n: one(*points(n // 30)),
     "many points, two of one key": lambda n: one(*twice(points(n // 30))),
     "many attributes of a point": lambda n: one(point(7, scattered(n // 19))),
     "the same, of keys that differ late in 1,000 bytes": lambda n: one(point(7, scattered(n // 1013, 1000))),
-    "points of 128 such attributes": lambda n: one(*[point(it, scattered(128, 1000), time=200 + it) for it in range(n // 130000)]),
-    "points of 16 such attributes, of 200 bytes": lambda n: one(*[point(it, scattered(16, 200), time=200 + it) for it in range(n // 3400)]),
+    "points of 128 such attributes": lambda n: one(*[point(turn, scattered(128, 1000), time=200 + turn) for turn in range(n // 130000)]),
+    "points of 16 such attributes, of 200 bytes": lambda n: one(*[point(turn, scattered(16, 200), time=200 + turn) for turn in range(n // 3400)]),
     "many bounds": lambda n: resource(scope(b"s", metric(b"m", [histogram(list(range(n // 16)))], kind=HISTOGRAM))),
     "bounds that differ in turn, long texts of 1,024 bytes": lambda n: resource(
-        scope(FULL, metric(FULL, [histogram([it % 2], 200 + it) for it in range(n // 60)], unit=FULL, kind=HISTOGRAM))),
-    "many scopes": lambda n: resource(*[scope(text(it), metric(b"m", [point(1)])) for it in range(n // 50)]),
-    "scopes that differ late in 1,000 bytes": lambda n: resource(*[scope(text(it, 1000), metric(b"m", [point(1)])) for it in range(n // 1050)]),
-    "one scope again and again": lambda n: resource(*[scope(b"s", metric(text(it), [point(1)])) for it in range(n // 50)]),
+        scope(FULL, metric(FULL, [histogram([turn % 2], 200 + turn) for turn in range(n // 60)], unit=FULL, kind=HISTOGRAM))),
+    "many scopes": lambda n: resource(*[scope(text(turn), metric(b"m", [point(1)])) for turn in range(n // 50)]),
+    "scopes that differ late in 1,000 bytes": lambda n: resource(*[scope(text(turn, 1000), metric(b"m", [point(1)])) for turn in range(n // 1050)]),
+    "one scope again and again": lambda n: resource(*[scope(b"s", metric(text(turn), [point(1)])) for turn in range(n // 50)]),
     "the same, with a version of 1,000 bytes": lambda n: resource(
-        *[scope(b"s", metric(text(it), [point(1)]), version=FULL[:1000]) for it in range(n // 1050)]),
-    "many windows": lambda n: one(*[point(1, time=200 + it) for it in range(n // 20)]),
+        *[scope(b"s", metric(text(turn), [point(1)]), version=FULL[:1000]) for turn in range(n // 1050)]),
+    "many windows": lambda n: one(*[point(1, time=200 + turn) for turn in range(n // 20)]),
     "many resources": lambda n: resource(scope(b"s", metric(b"m", [point(1)]))) * (n // 136),
-    "many attributes of a resource": lambda n: resource(more=b"".join(block(1, pair(text(it), b"v")) for it in range(n // 19))),
+    "many attributes of a resource": lambda n: resource(more=b"".join(block(1, pair(text(turn), b"v")) for turn in range(n // 19))),
     "fields that are not known": lambda n: b"\x78\x00" * (n // 2),
     "values within values": lambda n: one(point(7, block(7, block(1, b"k") + block(2, nested(n))))),
 }

@@ -75,107 +75,107 @@ static inline const uint8_t *kit_bytes_at(const void *at) { return (const uint8_
 /* Pairs of attributes that are written down, or nothing. */
 typedef struct kit_pairs { kit_handle handle; } kit_pairs;
 KIT_SIZE(kit_pairs, 16);
-static inline KIT_CALL void kit_pairs_free(kit_pairs *it) { kit_free(&it->handle); }
+static inline KIT_CALL void kit_pairs_free(kit_pairs *own) { kit_free(&own->handle); }
 
 /* A set of attributes, or nothing. */
 typedef struct kit_attributes { kit_handle handle; } kit_attributes;
 KIT_SIZE(kit_attributes, 16);
-static inline KIT_CALL void kit_attributes_free(kit_attributes *it) { kit_free(&it->handle); }
+static inline KIT_CALL void kit_attributes_free(kit_attributes *own) { kit_free(&own->handle); }
 
 /* Instruments that are written down, or nothing. */
 typedef struct kit_instruments { kit_handle handle; } kit_instruments;
 KIT_SIZE(kit_instruments, 16);
-static inline KIT_CALL void kit_instruments_free(kit_instruments *it) { kit_free(&it->handle); }
+static inline KIT_CALL void kit_instruments_free(kit_instruments *own) { kit_free(&own->handle); }
 
 /* A view that is being made, or nothing. */
 typedef struct kit_view { kit_handle handle; } kit_view;
 KIT_SIZE(kit_view, 16);
-static inline KIT_CALL void kit_view_free(kit_view *it) { kit_free(&it->handle); }
+static inline KIT_CALL void kit_view_free(kit_view *own) { kit_free(&own->handle); }
 
 /* Views that are written down, or nothing. */
 typedef struct kit_views { kit_handle handle; } kit_views;
 KIT_SIZE(kit_views, 16);
-static inline KIT_CALL void kit_views_free(kit_views *it) { kit_free(&it->handle); }
+static inline KIT_CALL void kit_views_free(kit_views *own) { kit_free(&own->handle); }
 
 /* Keys of attributes that are written down, or nothing. */
 typedef struct kit_keys { kit_handle handle; } kit_keys;
 KIT_SIZE(kit_keys, 16);
-static inline KIT_CALL void kit_keys_free(kit_keys *it) { kit_free(&it->handle); }
+static inline KIT_CALL void kit_keys_free(kit_keys *own) { kit_free(&own->handle); }
 
 /* A plan, or nothing. */
 typedef struct kit_plan { kit_handle handle; } kit_plan;
 KIT_SIZE(kit_plan, 16);
-static inline KIT_CALL void kit_plan_free(kit_plan *it) { kit_free(&it->handle); }
+static inline KIT_CALL void kit_plan_free(kit_plan *own) { kit_free(&own->handle); }
 
 /* A writer, or nothing. */
 typedef struct kit_writer { kit_handle handle; } kit_writer;
 KIT_SIZE(kit_writer, 16);
-static inline KIT_CALL void kit_writer_free(kit_writer *it) { kit_free(&it->handle); }
+static inline KIT_CALL void kit_writer_free(kit_writer *own) { kit_free(&own->handle); }
 
 /* A thread's own log of recordings, or nothing. */
 typedef struct kit_recorder { kit_handle handle; } kit_recorder;
 KIT_SIZE(kit_recorder, 16);
-static inline KIT_CALL void kit_recorder_free(kit_recorder *it) { kit_free(&it->handle); }
+static inline KIT_CALL void kit_recorder_free(kit_recorder *own) { kit_free(&own->handle); }
 
 /* An export, or nothing. */
 typedef struct kit_export { kit_handle handle; } kit_export;
 KIT_SIZE(kit_export, 16);
-static inline KIT_CALL void kit_export_free(kit_export *it) { kit_free(&it->handle); }
+static inline KIT_CALL void kit_export_free(kit_export *own) { kit_free(&own->handle); }
 
 /* Exports that were read, or nothing. */
 typedef struct kit_exports { kit_handle handle; } kit_exports;
 KIT_SIZE(kit_exports, 16);
-static inline KIT_CALL void kit_exports_free(kit_exports *it) { kit_free(&it->handle); }
+static inline KIT_CALL void kit_exports_free(kit_exports *own) { kit_free(&own->handle); }
 
 /* A gateway, which shows no point that an archive adopted, or nothing. */
 typedef struct kit_gateway { kit_handle handle; } kit_gateway;
 KIT_SIZE(kit_gateway, 16);
-static inline KIT_CALL void kit_gateway_free(kit_gateway *it) { kit_free(&it->handle); }
+static inline KIT_CALL void kit_gateway_free(kit_gateway *own) { kit_free(&own->handle); }
 
 /* A message of a gateway, or nothing. */
 typedef struct kit_message { kit_handle handle; } kit_message;
 KIT_SIZE(kit_message, 16);
-static inline KIT_CALL void kit_message_free(kit_message *it) { kit_free(&it->handle); }
+static inline KIT_CALL void kit_message_free(kit_message *own) { kit_free(&own->handle); }
 
 /* A writer that adopts ended incarnations of others, or nothing. */
 typedef struct kit_archive { kit_handle handle; } kit_archive;
 KIT_SIZE(kit_archive, 16);
-static inline KIT_CALL void kit_archive_free(kit_archive *it) { kit_free(&it->handle); }
+static inline KIT_CALL void kit_archive_free(kit_archive *own) { kit_free(&own->handle); }
 
 /* A place at a writer that threads share, or nothing. */
 typedef struct kit_seat { kit_handle handle; } kit_seat;
 KIT_SIZE(kit_seat, 16);
-static inline KIT_CALL void kit_seat_free(kit_seat *it) { kit_free(&it->handle); }
+static inline KIT_CALL void kit_seat_free(kit_seat *own) { kit_free(&own->handle); }
 
 /* An ask of a gateway, or nothing. */
 typedef struct kit_ask { kit_handle handle; } kit_ask;
 KIT_SIZE(kit_ask, 16);
-static inline KIT_CALL void kit_ask_free(kit_ask *it) { kit_free(&it->handle); }
+static inline KIT_CALL void kit_ask_free(kit_ask *own) { kit_free(&own->handle); }
 
 /* Rows that a gateway answered, or nothing. */
 typedef struct kit_rows { kit_handle handle; } kit_rows;
 KIT_SIZE(kit_rows, 16);
-static inline KIT_CALL void kit_rows_free(kit_rows *it) { kit_free(&it->handle); }
+static inline KIT_CALL void kit_rows_free(kit_rows *own) { kit_free(&own->handle); }
 
 /* Streams, or nothing. */
 typedef struct kit_streams { kit_handle handle; } kit_streams;
 KIT_SIZE(kit_streams, 16);
-static inline KIT_CALL void kit_streams_free(kit_streams *it) { kit_free(&it->handle); }
+static inline KIT_CALL void kit_streams_free(kit_streams *own) { kit_free(&own->handle); }
 
 /* Incarnations of which there are points, or nothing. */
 typedef struct kit_incarnations { kit_handle handle; } kit_incarnations;
 KIT_SIZE(kit_incarnations, 16);
-static inline KIT_CALL void kit_incarnations_free(kit_incarnations *it) { kit_free(&it->handle); }
+static inline KIT_CALL void kit_incarnations_free(kit_incarnations *own) { kit_free(&own->handle); }
 
 /* A text, or nothing. */
 typedef struct kit_text { kit_handle handle; } kit_text;
 KIT_SIZE(kit_text, 16);
-static inline KIT_CALL void kit_text_free(kit_text *it) { kit_free(&it->handle); }
+static inline KIT_CALL void kit_text_free(kit_text *own) { kit_free(&own->handle); }
 
 /* An export, a message or a request as bytes, or nothing. */
 typedef struct kit_bytes { kit_handle handle; } kit_bytes;
 KIT_SIZE(kit_bytes, 16);
-static inline KIT_CALL void kit_bytes_free(kit_bytes *it) { kit_free(&it->handle); }
+static inline KIT_CALL void kit_bytes_free(kit_bytes *own) { kit_free(&own->handle); }
 
 /* A count of 128 bits: high times 2^64, and low. */
 typedef struct kit_count {

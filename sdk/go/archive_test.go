@@ -123,8 +123,8 @@ func TestWhatAnArchiveRefuses(t *testing.T) {
 	if _, err := BeginArchive("shop", -1); !errors.Is(err, ErrRange) {
 		t.Fatal(err)
 	}
-	for _, it := range []interface{ Close() error }{g, a} {
-		if err := it.Close(); err != nil {
+	for _, thing := range []interface{ Close() error }{g, a} {
+		if err := thing.Close(); err != nil {
 			t.Fatal(err)
 		}
 	}

@@ -1,20 +1,20 @@
 package kotskhin
 
 // archiving performs what is of archives alone.
-func (r *run) archiving(it step) (any, error) {
-	thing := func(word string) any { return r.things[it[word].(string)] }
-	switch it["do"] {
+func (r *run) archiving(s step) (any, error) {
+	thing := func(word string) any { return r.things[s[word].(string)] }
+	switch s["do"] {
 	case "archive", "adopt":
-		return r.identified(it)
+		return r.identified(s)
 	case "archive_export":
-		time, err := unsigned(it["time"], 64)
+		time, err := unsigned(s["time"], 64)
 		if err != nil {
 			return nil, err
 		}
 		made, err := thing("by").(Archive).Export(time)
-		return r.keep(it, made, err)
+		return r.keep(s, made, err)
 	case "seal":
-		start, err := unsigned(it["start"], 64)
+		start, err := unsigned(s["start"], 64)
 		if err != nil {
 			return nil, err
 		}
@@ -26,23 +26,23 @@ func (r *run) archiving(it step) (any, error) {
 }
 
 // identified performs what tells a service, an instance and a start.
-func (r *run) identified(it step) (any, error) {
-	service := text_(it["service"])
-	id, err := instance(it["instance"])
+func (r *run) identified(s step) (any, error) {
+	service := text_(s["service"])
+	id, err := instance(s["instance"])
 	if err != nil {
 		return nil, err
 	}
-	start, err := unsigned(it["start"], 64)
+	start, err := unsigned(s["start"], 64)
 	if err != nil {
 		return nil, err
 	}
-	if it["do"] == "adopt" {
-		return nil, r.things[it["by"].(string)].(Archive).Adopt(r.things[it["gateway"].(string)].(Gateway), service, id, start)
+	if s["do"] == "adopt" {
+		return nil, r.things[s["by"].(string)].(Archive).Adopt(r.things[s["gateway"].(string)].(Gateway), service, id, start)
 	}
-	limit, err := signed(it["limit"], 64)
+	limit, err := signed(s["limit"], 64)
 	if err != nil {
 		return nil, err
 	}
 	made, err := beginArchive(service, id, start, int(limit))
-	return r.keep(it, made, err)
+	return r.keep(s, made, err)
 }

@@ -10,9 +10,9 @@ import (
 	"strings"
 )
 
-func (r *run) asking(it step) (any, error) {
-	of := r.things[it["of"].(string)]
-	if it["do"] == "streams" {
+func (r *run) asking(s step) (any, error) {
+	of := r.things[s["of"].(string)]
+	if s["do"] == "streams" {
 		streams, err := of.(interface{ Streams() (Streams, error) }).Streams()
 		if err != nil {
 			return nil, err
@@ -28,7 +28,7 @@ func (r *run) asking(it step) (any, error) {
 		}
 		return made, err
 	}
-	ask, err := r.ask(it["ask"].(map[string]any))
+	ask, err := r.ask(s["ask"].(map[string]any))
 	if err != nil {
 		return nil, err
 	}
@@ -36,10 +36,10 @@ func (r *run) asking(it step) (any, error) {
 	if err != nil {
 		return nil, err
 	}
-	if it["do"] == "row" {
-		return called(rows, it)
+	if s["do"] == "row" {
+		return called(rows, s)
 	}
-	if wanted, ok := it["table"]; ok {
+	if wanted, ok := s["table"]; ok {
 		if table, err := rows.Table(); err != nil || table != wanted {
 			return nil, fmt.Errorf("the table is %q, %v", table, err)
 		}
@@ -54,8 +54,8 @@ func (r *run) asking(it step) (any, error) {
 
 func anys[T any](list []T) []any {
 	made := []any{}
-	for _, it := range list {
-		made = append(made, it)
+	for _, incarnation := range list {
+		made = append(made, incarnation)
 	}
 	return made
 }
@@ -77,70 +77,70 @@ func data(row Row) map[string]any {
 	return made
 }
 
-func called(rows Rows, it step) (any, error) {
-	row := int(mustInt(it["row"]))
-	if it["call"] == "attributes" {
+func called(rows Rows, s step) (any, error) {
+	row := int(mustInt(s["row"]))
+	if s["call"] == "attributes" {
 		return one(rows.Attributes(row))
 	}
 	made, err := rows.At(row)
 	return data(made), err
 }
 
-func (r *run) gateways(it step) (any, error) {
-	thing := func(word string) any { return r.things[it[word].(string)] }
-	switch it["do"] {
+func (r *run) gateways(s step) (any, error) {
+	thing := func(word string) any { return r.things[s[word].(string)] }
+	switch s["do"] {
 	case "gateway":
-		id, err := unsigned(it["id"], 32)
+		id, err := unsigned(s["id"], 32)
 		if err != nil {
 			return nil, err
 		}
 		made, err := OpenGateway(uint32(id))
-		return r.keep(it, made, err)
+		return r.keep(s, made, err)
 	case "gateway_read":
 		id, points, err := thing("of").(Gateway).Head()
 		return map[string]any{"id": id, "points": points}, err
 	case "take":
 		taking, err := thing("by").(Gateway).Take(thing("export").(Export))
-		if late, ok := it["late"]; ok && err == nil && late != taking.Late {
+		if late, ok := s["late"]; ok && err == nil && late != taking.Late {
 			return nil, fmt.Errorf("it is late: %v", taking.Late)
 		}
 		return taking.Changed, err
 	case "merge":
 		return one(thing("by").(Gateway).Merge(thing("from").(Gateway)))
 	case "merge_bytes":
-		return one(thing("by").(Gateway).MergeBytes(r.bytes(it["bytes"])))
+		return one(thing("by").(Gateway).MergeBytes(r.bytes(s["bytes"])))
 	case "conflicts":
 		return one(thing("of").(Gateway).Conflicts())
 	case "same":
 		return one(thing("of").(Gateway).Same(thing("and").(Gateway)))
 	case "newest":
-		id, err := instance(it["instance"])
+		id, err := instance(s["instance"])
 		if err != nil {
 			return nil, err
 		}
-		start, err := unsigned(it["start"], 64)
+		start, err := unsigned(s["start"], 64)
 		if err != nil {
 			return nil, err
 		}
-		return one(thing("of").(Gateway).Newest(text_(it["service"]), id, start))
+		return one(thing("of").(Gateway).Newest(text_(s["service"]), id, start))
 	default:
-		return nil, fmt.Errorf("there is no step %v", it["do"])
+		return nil, fmt.Errorf("there is no step %v", s["do"])
 	}
 }
 
-func (r *run) gossip(it step) (any, error) {
-	thing := func(word string) any { return r.things[it[word].(string)] }
-	switch it["do"] {
+func (r *run) gossip(s step) (any, error) {
+	thing := func(word string) any { return r.things[s[word].(string)] }
+	switch s["do"] {
 	case "send":
-		to, err := unsigned(it["to"], 32)
+		to, err := unsigned(s["to"], 32)
 		if err != nil {
 			return nil, err
 		}
 		made, err := thing("by").(Gateway).Send(uint32(to))
-		return r.keep(it, made, err)
+		return r.keep(s, made, err)
 	case "hand":
 		answer, isAnswered, err := thing("by").(Gateway).Hand(thing("message").(Message))
-		name, isWanted := it["answer"].(string)
+		name, isWanted := s["answer"].(string)
 		if err == nil && isAnswered != isWanted {
 			return nil, fmt.Errorf("it is answered: %v", isAnswered)
 		}
@@ -152,10 +152,10 @@ func (r *run) gossip(it step) (any, error) {
 	}
 }
 
-func (r *run) formats(it step) (any, error) {
-	switch it["do"] {
+func (r *run) formats(s step) (any, error) {
+	switch s["do"] {
 	case "incarnations":
-		list, err := r.things[it["of"].(string)].(interface{ Incarnations() ([]Incarnation, error) }).Incarnations()
+		list, err := r.things[s["of"].(string)].(interface{ Incarnations() ([]Incarnation, error) }).Incarnations()
 		made := []any{}
 		for _, one := range list {
 			made = append(made, map[string]any{
@@ -164,44 +164,44 @@ func (r *run) formats(it step) (any, error) {
 		}
 		return made, err
 	case "services":
-		list, err := r.things[it["of"].(string)].(Gateway).Services()
+		list, err := r.things[s["of"].(string)].(Gateway).Services()
 		made := []any{}
 		for _, one := range list {
 			made = append(made, one)
 		}
 		return made, err
 	case "otlp":
-		made, err := r.things[it["of"].(string)].(Export).OTLP()
-		return r.keep(it, made, err)
+		made, err := r.things[s["of"].(string)].(Export).OTLP()
+		return r.keep(s, made, err)
 	case "of_otlp":
-		list, err := ExportsOfOTLP(r.bytes(it["bytes"]))
-		for i, name := range it["as"].([]any) {
+		list, err := ExportsOfOTLP(r.bytes(s["bytes"]))
+		for i, name := range s["as"].([]any) {
 			if i < len(list) {
 				r.things[name.(string)] = list[i]
 			}
 		}
 		return len(list), err
 	default:
-		return nil, r.page(it)
+		return nil, r.page(s)
 	}
 }
 
-func (r *run) page(it step) error {
-	gateway := r.things[it["of"].(string)].(Gateway)
+func (r *run) page(s step) error {
+	gateway := r.things[s["of"].(string)].(Gateway)
 	all, of := gateway.OpenMetrics, gateway.OpenMetricsOf
-	if it["format"] == "prometheus" {
+	if s["format"] == "prometheus" {
 		all, of = gateway.Prometheus, gateway.PrometheusOf
 	}
-	if service, ok := it["service"]; ok {
+	if service, ok := s["service"]; ok {
 		all = func() (string, error) { return of(text_(service)) }
 	}
 	told, err := all()
-	for _, line := range it["has"].([]any) {
+	for _, line := range s["has"].([]any) {
 		if err == nil && !strings.Contains("\n"+told, "\n"+line.(string)+"\n") {
 			return fmt.Errorf("%q is not in %q", line, told)
 		}
 	}
-	for _, lacked := range it["lacks"].([]any) {
+	for _, lacked := range s["lacks"].([]any) {
 		if strings.Contains(told, lacked.(string)) {
 			return fmt.Errorf("%q is in %q", lacked, told)
 		}
@@ -209,35 +209,35 @@ func (r *run) page(it step) error {
 	return err
 }
 
-func (r *run) encoding(it step) (any, error) {
-	switch it["do"] {
+func (r *run) encoding(s step) (any, error) {
+	switch s["do"] {
 	case "encode":
-		made, err := r.things[it["of"].(string)].(interface{ Encode() ([]byte, error) }).Encode()
-		return r.keep(it, made, err)
+		made, err := r.things[s["of"].(string)].(interface{ Encode() ([]byte, error) }).Encode()
+		return r.keep(s, made, err)
 	case "decode":
-		bytes := r.bytes(it["bytes"])
-		switch it["what"] {
+		bytes := r.bytes(s["bytes"])
+		switch s["what"] {
 		case "export":
 			made, err := DecodeExport(bytes)
-			return r.keep(it, made, err)
+			return r.keep(s, made, err)
 		default:
 			made, err := DecodeMessage(bytes)
-			return r.keep(it, made, err)
+			return r.keep(s, made, err)
 		}
 	case "bytes_are":
-		if told := hex.EncodeToString(r.bytes(it["of"])); told != it["hex"] {
+		if told := hex.EncodeToString(r.bytes(s["of"])); told != s["hex"] {
 			return nil, errors.New("the bytes are " + told)
 		}
 		return nil, nil
 	case "bytes":
-		return r.keep(it, spoilt(append([]byte{}, r.bytes(it["of"])...), it), nil)
+		return r.keep(s, spoilt(append([]byte{}, r.bytes(s["of"])...), s), nil)
 	default:
-		return nil, r.decodeOften(it)
+		return nil, r.decodeOften(s)
 	}
 }
 
-func spoilt(made []byte, it step) []byte {
-	if list, ok := it["set"].([]any); ok {
+func spoilt(made []byte, s step) []byte {
+	if list, ok := s["set"].([]any); ok {
 		for _, one := range list {
 			place := int(mustInt(one.([]any)[0]))
 			if place < 0 {
@@ -246,14 +246,14 @@ func spoilt(made []byte, it step) []byte {
 			made[place] = byte(mustInt(one.([]any)[1]))
 		}
 	}
-	if cut, ok := it["cut"]; ok {
+	if cut, ok := s["cut"]; ok {
 		made = made[:mustInt(cut)]
 	}
-	if add, ok := it["add"].(string); ok {
+	if add, ok := s["add"].(string); ok {
 		more, _ := hex.DecodeString(add)
 		made = append(made, more...)
 	}
-	if it["checksum"] == true {
+	if s["checksum"] == true {
 		sum := adler32.Checksum(made[:len(made)-4])
 		for i := 0; i < 4; i++ {
 			made[len(made)-4+i] = byte(sum >> (24 - 8*i))
@@ -263,8 +263,8 @@ func spoilt(made []byte, it step) []byte {
 }
 
 // decodeOften closes each export, as a gateway does that takes many.
-func (r *run) decodeOften(it step) error {
-	gateway, bytes, times := r.things[it["by"].(string)].(Gateway), r.bytes(it["bytes"]), int(mustInt(it["times"]))
+func (r *run) decodeOften(s step) error {
+	gateway, bytes, times := r.things[s["by"].(string)].(Gateway), r.bytes(s["bytes"]), int(mustInt(s["times"]))
 	before := 0
 	for turn := 0; turn <= times; turn++ {
 		export, err := DecodeExport(bytes)
@@ -279,7 +279,7 @@ func (r *run) decodeOften(it step) error {
 			before = resident()
 		}
 	}
-	if grown := resident() - before; grown > int(mustInt(it["most_megabytes"])) {
+	if grown := resident() - before; grown > int(mustInt(s["most_megabytes"])) {
 		return fmt.Errorf("the process grew by %d MB", grown)
 	}
 	return nil

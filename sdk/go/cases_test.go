@@ -36,9 +36,9 @@ func TestCases(t *testing.T) {
 		steps := one.Steps
 		t.Run(one.Name, func(t *testing.T) {
 			run := run{t: t, things: map[string]any{}}
-			for _, it := range steps {
-				if fault := run.step(it); fault != "" {
-					t.Fatalf("%.300v: %s", it, fault)
+			for _, step := range steps {
+				if fault := run.step(step); fault != "" {
+					t.Fatalf("%.300v: %s", step, fault)
 				}
 			}
 		})
@@ -56,22 +56,22 @@ type run struct {
 var errNoType = errors.New("a number of no such type")
 
 // step performs a step, and tells what is other than it says.
-func (r *run) step(it step) string {
-	told, err := r.do(it)
+func (r *run) step(s step) string {
+	told, err := r.do(s)
 	isOutOfRange := errors.Is(err, errNoType) || errors.Is(err, ErrRange)
-	if it["out_of_range"] == true {
+	if s["out_of_range"] == true {
 		if !isOutOfRange {
 			return fmt.Sprint("it is not out of range: ", err)
 		}
 		return ""
 	}
-	if wanted, ok := it["refused"].(map[string]any); ok {
+	if wanted, ok := s["refused"].(map[string]any); ok {
 		return refusedAs(wanted, err)
 	}
 	if err != nil {
 		return err.Error()
 	}
-	if is, ok := it["is"]; ok && !reflect.DeepEqual(plain(told), plain(is)) {
+	if is, ok := s["is"]; ok && !reflect.DeepEqual(plain(told), plain(is)) {
 		return fmt.Sprintf("it answers %v", plain(told))
 	}
 	return ""
@@ -97,37 +97,37 @@ func refusedAs(wanted map[string]any, err error) string {
 
 // plain is a value as JSON has it, where a text that is repeated is that text.
 func plain(of any) any {
-	switch it := of.(type) {
+	switch of := of.(type) {
 	case map[string]any:
-		if repeat, ok := it["repeat"]; ok {
+		if repeat, ok := of["repeat"]; ok {
 			return text_(map[string]any{"repeat": repeat})
 		}
 		made := map[string]any{}
-		for key, value := range it {
+		for key, value := range of {
 			made[key] = plain(value)
 		}
 		return made
 	case []any:
 		made := []any{}
-		for _, value := range it {
+		for _, value := range of {
 			made = append(made, plain(value))
 		}
 		return made
 	case string, bool, nil:
-		return it
+		return of
 	case fmt.Stringer:
-		return it.String()
+		return of.String()
 	default:
-		return fmt.Sprint(it)
+		return fmt.Sprint(of)
 	}
 }
 
 func text_(of any) string {
-	if it, ok := of.(map[string]any); ok {
-		if repeat, ok := it["repeat"].([]any); ok {
+	if object, ok := of.(map[string]any); ok {
+		if repeat, ok := object["repeat"].([]any); ok {
 			return strings.Repeat(repeat[0].(string), int(mustInt(repeat[1])))
 		}
-		made, _ := hex.DecodeString(it["hex"].(string))
+		made, _ := hex.DecodeString(object["hex"].(string))
 		return string(made)
 	}
 	return of.(string)
@@ -174,9 +174,9 @@ func whole(of Instance) *big.Int {
 
 func pairsFor(of any) ([]attribute.KeyValue, error) {
 	var made []attribute.KeyValue
-	for _, it := range of.([]any) {
-		key := text_(it.([]any)[0])
-		switch value := it.([]any)[1].(type) {
+	for _, pair := range of.([]any) {
+		key := text_(pair.([]any)[0])
+		switch value := pair.([]any)[1].(type) {
 		case bool:
 			made = append(made, attribute.Bool(key, value))
 		case json.Number:
@@ -195,14 +195,14 @@ func pairsFor(of any) ([]attribute.KeyValue, error) {
 // listed are pairs as the list has them.
 func listed(pairs []attribute.KeyValue) []any {
 	made := []any{}
-	for _, it := range pairs {
-		switch it.Value.Type() {
+	for _, pair := range pairs {
+		switch pair.Value.Type() {
 		case attribute.BOOL:
-			made = append(made, []any{string(it.Key), it.Value.AsBool()})
+			made = append(made, []any{string(pair.Key), pair.Value.AsBool()})
 		case attribute.INT64:
-			made = append(made, []any{string(it.Key), json.Number(it.Value.Emit())})
+			made = append(made, []any{string(pair.Key), json.Number(pair.Value.Emit())})
 		default:
-			made = append(made, []any{string(it.Key), it.Value.AsString()})
+			made = append(made, []any{string(pair.Key), pair.Value.AsString()})
 		}
 	}
 	return made
@@ -220,8 +220,8 @@ func kindFor(of any) Kind {
 
 func boundsFor(of any) ([]int64, error) {
 	made := []int64{}
-	for _, it := range of.([]any) {
-		bound, err := signed(it, 64)
+	for _, item := range of.([]any) {
+		bound, err := signed(item, 64)
 		if err != nil {
 			return nil, err
 		}
@@ -232,36 +232,36 @@ func boundsFor(of any) ([]int64, error) {
 
 func textsFor(of any) []string {
 	made := []string{}
-	for _, it := range of.([]any) {
-		made = append(made, text_(it))
+	for _, item := range of.([]any) {
+		made = append(made, text_(item))
 	}
 	return made
 }
 
 func viewFor(of map[string]any) (view View, err error) {
 	for word, to := range map[string]*string{"name": &view.Name, "rename": &view.Rename} {
-		if it, ok := of[word]; ok {
-			*to = text_(it)
+		if given, ok := of[word]; ok {
+			*to = text_(given)
 		}
 	}
-	if it, ok := of["scope"]; ok {
-		scope := text_(it)
+	if given, ok := of["scope"]; ok {
+		scope := text_(given)
 		view.Scope = &scope
 	}
-	if it, ok := of["kind"]; ok {
-		kind := kindFor(it)
+	if given, ok := of["kind"]; ok {
+		kind := kindFor(given)
 		view.Kind = &kind
 	}
-	if it, ok := of["keep"]; ok {
-		view.Keep = textsFor(it)
+	if given, ok := of["keep"]; ok {
+		view.Keep = textsFor(given)
 	}
-	switch it := of["aggregation"].(type) {
+	switch given := of["aggregation"].(type) {
 	case string:
-		view.Aggregation = aggregations[it]
+		view.Aggregation = aggregations[given]
 	case json.Number:
-		view.Aggregation = Aggregation(mustInt(it))
+		view.Aggregation = Aggregation(mustInt(given))
 	case map[string]any:
-		view.Bounds, err = boundsFor(it["buckets"])
+		view.Bounds, err = boundsFor(given["buckets"])
 	}
 	return view, err
 }
@@ -296,31 +296,31 @@ func (r *run) ask(of map[string]any) (ask Ask, err error) {
 			}
 		}
 	}
-	if it, ok := of["service"]; err == nil && ok {
-		err = ask.Service(text_(it))
+	if given, ok := of["service"]; err == nil && ok {
+		err = ask.Service(text_(given))
 	}
-	if it, ok := of["only"]; err == nil && ok {
+	if given, ok := of["only"]; err == nil && ok {
 		var pairs []attribute.KeyValue
-		if pairs, err = pairsFor(it); err == nil {
+		if pairs, err = pairsFor(given); err == nil {
 			err = ask.Only(pairs...)
 		}
 	}
-	if it, ok := of["keep"]; err == nil && ok {
-		err = ask.Keep(textsFor(it)...)
+	if given, ok := of["keep"]; err == nil && ok {
+		err = ask.Keep(textsFor(given)...)
 	}
 	return ask, err
 }
 
 func (r *run) bytes(of any) []byte {
-	if it, ok := of.(map[string]any); ok {
-		made, _ := hex.DecodeString(it["hex"].(string))
+	if object, ok := of.(map[string]any); ok {
+		made, _ := hex.DecodeString(object["hex"].(string))
 		return made
 	}
 	return r.things[of.(string)].([]byte)
 }
 
-func (r *run) keep(it step, made any, err error) (any, error) {
-	if name, ok := it["as"].(string); ok && err == nil {
+func (r *run) keep(s step, made any, err error) (any, error) {
+	if name, ok := s["as"].(string); ok && err == nil {
 		r.things[name] = made
 	}
 	return nil, err
@@ -338,57 +338,57 @@ type takesIn interface {
 	TakeIn(r Recorder, most int) (Taken, error)
 }
 
-func (r *run) do(it step) (any, error) {
-	thing := func(word string) any { return r.things[it[word].(string)] }
-	switch it["do"] {
+func (r *run) do(s step) (any, error) {
+	thing := func(word string) any { return r.things[s[word].(string)] }
+	switch s["do"] {
 	case "plan":
-		return r.plan(it)
+		return r.plan(s)
 	case "set":
-		pairs, err := pairsFor(it["pairs"])
+		pairs, err := pairsFor(s["pairs"])
 		if err != nil {
 			return nil, err
 		}
 		made, err := NewAttributes(pairs...)
-		return r.keep(it, made, err)
+		return r.keep(s, made, err)
 	case "pairs":
 		pairs, err := thing("of").(Attributes).Pairs()
 		return listed(pairs), err
 	case "writer", "restart", "collect", "shutdown":
-		return r.timed(it)
+		return r.timed(s)
 	case "measure", "measure_held", "hold", "recorder", "take_in", "length", "clear", "share", "split", "fill":
-		return r.recording(it)
+		return r.recording(s)
 	case "threads":
-		return nil, r.threads(it)
+		return nil, r.threads(s)
 	case "export":
 		head, err := thing("of").(Export).Head()
 		return map[string]any{
 			"service": head.Service, "instance": whole(head.Instance), "start": head.Start, "time": head.Time, "points": head.Points,
 		}, err
 	case "rows", "row", "streams":
-		return r.asking(it)
+		return r.asking(s)
 	case "send", "hand", "message":
-		return r.gossip(it)
+		return r.gossip(s)
 	case "archive", "adopt", "archive_export", "seal", "archive_read":
-		return r.archiving(it)
+		return r.archiving(s)
 	case "encode", "decode", "bytes", "bytes_are", "decode_often":
-		return r.encoding(it)
+		return r.encoding(s)
 	case "incarnations", "services", "otlp", "of_otlp", "page":
-		return r.formats(it)
+		return r.formats(s)
 	case "close":
 		return nil, thing("of").(interface{ Close() error }).Close()
 	default:
-		return r.gateways(it)
+		return r.gateways(s)
 	}
 }
 
-func (r *run) plan(it step) (any, error) {
+func (r *run) plan(s step) (any, error) {
 	var instruments []Instrument
-	for _, one := range it["instruments"].([]any) {
+	for _, one := range s["instruments"].([]any) {
 		words := one.([]any)
 		instruments = append(instruments, Instrument{text_(words[0]), text_(words[1]), text_(words[2]), kindFor(words[3])})
 	}
 	var views []View
-	if list, ok := it["views"].([]any); ok {
+	if list, ok := s["views"].([]any); ok {
 		for _, one := range list {
 			view, err := viewFor(one.(map[string]any))
 			if err != nil {
@@ -398,60 +398,60 @@ func (r *run) plan(it step) (any, error) {
 		}
 	}
 	limit := uint64(DefaultLimit)
-	if given, ok := it["limit"]; ok {
+	if given, ok := s["limit"]; ok {
 		var err error
 		if limit, err = unsigned(given, 64); err != nil {
 			return nil, err
 		}
 	}
 	made, err := PlanWith(instruments, views, limit)
-	return r.keep(it, made, err)
+	return r.keep(s, made, err)
 }
 
-func (r *run) timed(it step) (any, error) {
-	if it["do"] == "writer" {
-		id, err := instance(it["instance"])
+func (r *run) timed(s step) (any, error) {
+	if s["do"] == "writer" {
+		id, err := instance(s["instance"])
 		if err != nil {
 			return nil, err
 		}
-		start, err := unsigned(it["start"], 64)
+		start, err := unsigned(s["start"], 64)
 		if err != nil {
 			return nil, err
 		}
-		made, err := StartWriter(r.things[it["plan"].(string)].(Plan), text_(it["service"]), id, start)
-		return r.keep(it, made, err)
+		made, err := StartWriter(r.things[s["plan"].(string)].(Plan), text_(s["service"]), id, start)
+		return r.keep(s, made, err)
 	}
-	by := r.things[it["by"].(string)]
-	word := map[bool]string{true: "start", false: "time"}[it["do"] == "restart"]
-	time, err := unsigned(it[word], 64)
+	by := r.things[s["by"].(string)]
+	word := map[bool]string{true: "start", false: "time"}[s["do"] == "restart"]
+	time, err := unsigned(s[word], 64)
 	if err != nil {
 		return nil, err
 	}
-	switch it["do"] {
+	switch s["do"] {
 	case "restart":
 		return nil, by.(Writer).Restart(time)
 	case "shutdown":
 		made, err := by.(Writer).Shutdown(time)
-		return r.keep(it, made, err)
+		return r.keep(s, made, err)
 	default:
 		made, err := by.(interface{ Collect(uint64) (Export, error) }).Collect(time)
-		return r.keep(it, made, err)
+		return r.keep(s, made, err)
 	}
 }
 
-func (r *run) recording(it step) (any, error) {
+func (r *run) recording(s step) (any, error) {
 	number := func(word string) (int, error) {
-		made, err := signed(it[word], 64)
+		made, err := signed(s[word], 64)
 		return int(made), err
 	}
-	thing := func(word string) any { return r.things[it[word].(string)] }
-	switch it["do"] {
+	thing := func(word string) any { return r.things[s[word].(string)] }
+	switch s["do"] {
 	case "measure", "measure_held":
-		value, err := signed(it["value"], 64)
+		value, err := signed(s["value"], 64)
 		if err != nil {
 			return nil, err
 		}
-		if it["do"] == "measure_held" {
+		if s["do"] == "measure_held" {
 			held, err := number("number")
 			if err != nil {
 				return nil, err
@@ -475,17 +475,17 @@ func (r *run) recording(it step) (any, error) {
 			return nil, err
 		}
 		made, err := NewRecorder(capacity)
-		return r.keep(it, made, err)
+		return r.keep(s, made, err)
 	case "length":
 		return one(thing("of").(Recorder).Len())
 	case "clear":
 		return nil, thing("of").(Recorder).Clear()
 	case "share":
 		made, err := thing("by").(Writer).Share()
-		return r.keep(it, made, err)
+		return r.keep(s, made, err)
 	case "split":
 		times := 1
-		if given, ok := it["times"]; ok {
+		if given, ok := s["times"]; ok {
 			times = int(mustInt(given))
 		}
 		for ; times > 1; times-- {
@@ -494,12 +494,12 @@ func (r *run) recording(it step) (any, error) {
 			}
 		}
 		made, err := thing("by").(Seat).Split()
-		return r.keep(it, made, err)
+		return r.keep(s, made, err)
 	case "fill":
-		for i := int64(0); i < mustInt(it["sets"]); i++ {
-			set, err := NewAttributes(attribute.Int64(it["key"].(string), i))
+		for i := int64(0); i < mustInt(s["sets"]); i++ {
+			set, err := NewAttributes(attribute.Int64(s["key"].(string), i))
 			if err == nil {
-				err = thing("by").(records).Measure(int(mustInt(it["instrument"])), set, 1)
+				err = thing("by").(records).Measure(int(mustInt(s["instrument"])), set, 1)
 			}
 			if err != nil {
 				return nil, err
@@ -508,18 +508,18 @@ func (r *run) recording(it step) (any, error) {
 		}
 		return nil, nil
 	default:
-		return r.takeIn(it)
+		return r.takeIn(s)
 	}
 }
 
 func one[T any](made T, err error) (any, error) { return made, err }
 
-func (r *run) takeIn(it step) (any, error) {
+func (r *run) takeIn(s step) (any, error) {
 	most := math.MaxInt
-	if given, ok := it["most"]; ok {
+	if given, ok := s["most"]; ok {
 		most = int(mustInt(given))
 	}
-	told, err := r.things[it["by"].(string)].(takesIn).TakeIn(r.things[it["recorder"].(string)].(Recorder), most)
+	told, err := r.things[s["by"].(string)].(takesIn).TakeIn(r.things[s["recorder"].(string)].(Recorder), most)
 	made := map[string]any{"recorded": told.Recorded, "refused": told.Refused}
 	var why Refused
 	if errors.As(told.Why, &why) {
@@ -531,20 +531,20 @@ func (r *run) takeIn(it step) (any, error) {
 	return made, err
 }
 
-func (r *run) threads(it step) error {
-	threads, each, held := int(mustInt(it["threads"])), int(mustInt(it["each"])), int(mustInt(it["number"]))
-	instrument, set := int(mustInt(it["instrument"])), r.things[it["set"].(string)].(Attributes)
+func (r *run) threads(s step) error {
+	threads, each, held := int(mustInt(s["threads"])), int(mustInt(s["each"])), int(mustInt(s["number"]))
+	instrument, set := int(mustInt(s["instrument"])), r.things[s["set"].(string)].(Attributes)
 	// Each has its seat before any of them records: the writer is busy then, and splits nothing.
 	hands := make([]hand, threads)
 	for i := range hands {
 		var err error
-		if hands[i], err = r.hand(it); err != nil {
+		if hands[i], err = r.hand(s); err != nil {
 			return err
 		}
 	}
 	faults := make(chan error, threads)
-	for _, it := range hands {
-		go func(it hand) { faults <- recordOften(it.by, it.full, each, held, instrument, set) }(it)
+	for _, own := range hands {
+		go func(h hand) { faults <- recordOften(h.by, h.full, each, held, instrument, set) }(own)
 	}
 	var fault error
 	for range hands {
@@ -561,14 +561,14 @@ type hand struct {
 	full func() (bool, error)
 }
 
-func (r *run) hand(it step) (hand, error) {
-	if it["with"] == "seat" {
-		seat, err := r.things[it["by"].(string)].(Seat).Split()
+func (r *run) hand(s step) (hand, error) {
+	if s["with"] == "seat" {
+		seat, err := r.things[s["by"].(string)].(Seat).Split()
 		return hand{seat, func() (bool, error) { return true, nil }}, err
 	}
-	recorder, err := NewRecorder(int(mustInt(it["capacity"])))
+	recorder, err := NewRecorder(int(mustInt(s["capacity"])))
 	return hand{recorder, func() (bool, error) {
-		told, err := r.things[it["by"].(string)].(Writer).TakeIn(recorder, math.MaxInt)
+		told, err := r.things[s["by"].(string)].(Writer).TakeIn(recorder, math.MaxInt)
 		return err == nil && told.Refused == 0, err
 	}}, err
 }

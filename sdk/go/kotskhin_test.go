@@ -293,7 +293,7 @@ func TestZeroValuesAreRefused(t *testing.T) {
 	_, _, hand := Gateway{}.Hand(Message{})
 	for i, err := range []error{
 		w.Measure(0, Attributes{}, 1), r.Measure(0, Attributes{}, 1), Writer{}.Measure(0, none, 1), Recorder{}.MeasureHeld(0, 1),
-		hold, start, share, in, collect, take, sum, send, bytes, streams, encode, envelope, hand,
+		Writer{}.MeasureAll(nil, nil), hold, start, share, in, collect, take, sum, send, bytes, streams, encode, envelope, hand,
 	} {
 		if !errors.Is(err, ErrNothing) {
 			t.Error(i, err)
@@ -378,8 +378,10 @@ func TestListsAreRecorded(t *testing.T) {
 		t.Fatal(total(t, g))
 	}
 	w.Close()
-	if err := w.MeasureAll(list, tell); !errors.Is(err, ErrNothing) || len(refused) != 3 {
-		t.Fatal(refused, err)
+	for _, closed := range [][]Noted{list, nil} {
+		if err := w.MeasureAll(closed, tell); !errors.Is(err, ErrNothing) || len(refused) != 3 {
+			t.Fatal(refused, err)
+		}
 	}
 }
 
@@ -449,8 +451,8 @@ func TestWhatIsForgottenIsCollected(t *testing.T) {
 	if held := atomic.LoadInt64(&inC.held); held != live {
 		t.Fatal(held, live)
 	}
-	for _, it := range []io.Closer{export, message, gateway, export} {
-		it.Close()
+	for _, closer := range []io.Closer{export, message, gateway, export} {
+		closer.Close()
 	}
 	if held := atomic.LoadInt64(&inC.held); held != 0 {
 		t.Fatal(held)

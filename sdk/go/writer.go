@@ -95,7 +95,7 @@ type Noted struct {
 }
 
 // MeasureAll records what was noted, one after the other, by one crossing into C. What is refused is refused by itself: refused is called
-// with its place in the list and why, once the writer is free again. The error is of the call, which then recorded nothing.
+// with its place in the list and why, once the writer is free again. The error is of the call, which then recorded nothing: ErrNothing, of an empty list too.
 func (w Writer) MeasureAll(list []Noted, refused func(place int, why Refused)) error {
 	faults, err := w.measureAll(list)
 	for _, fault := range faults {
@@ -113,14 +113,15 @@ type fault struct {
 func (w Writer) measureAll(list []Noted) (faults []fault, err error) {
 	writer := w.h.lock()
 	defer w.h.unlock()
+	// (a list without items asks C nothing)
+	if !writer.handle.full {
+		return nil, Refused{Code: ErrNothing}
+	}
 	for from := 0; from < len(list); from++ {
 		var code C.int32_t
 		var place C.uint64_t
 		at := (*C.kotskhin_noted)(unsafe.Pointer(&list[0]))
 		from = int(C.kotskhin_measure(writer, at, C.size_t(from), C.size_t(len(list)), &code, &place))
-		if code == C.KIT_NOTHING {
-			return faults, Refused{Code: ErrNothing}
-		}
 		if from < len(list) {
 			faults = append(faults, fault{from, Refused{Code: Code(code), Place: uint64(place)}})
 		}

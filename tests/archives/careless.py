@@ -105,6 +105,6 @@ def read(script):
         line, bar, answer = (part.strip() for part in line.partition("|"))
         lines.append(line)
         if bar:
-            found = {it.strip().replace("{1}", told(1)).replace("{2}", told(2)) for it in answer.split("/ ")}
+            found = {word.strip().replace("{1}", told(1)).replace("{2}", told(2)) for word in answer.split("/ ")}
             answers.append((len(lines), line, found if line.startswith("points") else answer))
     return lines, answers

@@ -155,7 +155,7 @@ class Archive:
         totals = dict(self.totals)
         for key, cell in part.items():
             totals[key[1:]] = totals.get(key[1:], 0) + cell.payload[1]
-        if max(incarnation.start, time) >= LAST_TOLD or not all(LEAST <= it <= GREATEST for it in totals.values()):
+        if max(incarnation.start, time) >= LAST_TOLD or not all(LEAST <= value <= GREATEST for value in totals.values()):
             raise Refused("OutOfRange")
         if len(totals) > self.limit:
             raise Refused("SetLimit")

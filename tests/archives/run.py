@@ -47,7 +47,7 @@ BAD = [
 GOOD = b"keepers 2\n\n# two keepers\narchive 1 shop/9 1 1\n"
 
 
-def done(program, script):
+def run_program(program, script):
     return subprocess.run([program], input=script, capture_output=True, timeout=SECONDS)
 
 
@@ -62,7 +62,7 @@ def paired(wanted, lines):
         while (text := next(lines, "")) != "":
             found.append(text)
         if line.startswith("page"):
-            found = [it for it in found if it.startswith("requests_total{")]
+            found = [line for line in found if line.startswith("requests_total{")]
         yield number, line, answer, set(found)
         if len(found) != len(set(found)):
             yield number, line, "each line once", found
@@ -72,7 +72,7 @@ def paired(wanted, lines):
 
 def differs(program, lines, answers):
     """Where a program answers lines otherwise than told."""
-    ran = done(program, "".join(f"{it}\n" for it in lines).encode())
+    ran = run_program(program, "".join(f"{line}\n" for line in lines).encode())
     for number, line, wanted, found in paired(answers, ran.stdout.decode().splitlines()):
         if wanted != found:
             more = f"wanted {wanted!r}, found {found!r}" if isinstance(wanted, str) else f"too few {sorted(wanted - found)}, too many {sorted(found - wanted)}"
@@ -99,21 +99,21 @@ def play(programs, seed, count, events):
             continue
         counts.update(schedule.counts)
         for program in programs:
-            wrong += [f"{program.name}, schedule {number} ({kind}): {it}" for it in differs(program, schedule.lines, schedule.answers)]
+            wrong += [f"{program.name}, schedule {number} ({kind}): {fault}" for fault in differs(program, schedule.lines, schedule.answers)]
     return wrong, counts
 
 
 def scripts(program):
     """What was wrong with scripts of careless archivists."""
     for name, script in careless.SCRIPTS.items():
-        for it in differs(program, *careless.read(script)):
-            yield f"{program.name}: {name}: {it}"
+        for fault in differs(program, *careless.read(script)):
+            yield f"{program.name}: {name}: {fault}"
 
 
 def bad_lines(program):
     """What was wrong with how bad lines end."""
     for line in BAD:
-        ran = done(program, GOOD + line + b"\nshow 1\n")
+        ran = run_program(program, GOOD + line + b"\nshow 1\n")
         ended = re.fullmatch(rb"line 5: [ -~]+\n", ran.stderr) if line != b"\xff" else ran.stderr
         if ran.returncode != (2 if line != b"\xff" else 4) or ran.stdout or not ended:
             yield f"{program.name}: the bad line {line!r}: status {ran.returncode}, wrote {ran.stdout!r}, and on the standard error {ran.stderr!r}"
@@ -161,9 +161,9 @@ def soak(program, incarnations):
 def lacking(counts):
     """What schedules should have had, and have not."""
     wanted = ["adopted", "late", "zombies", "sealed", "partitions", "lost messages", "doubled messages", "late messages", "pages", "same"]
-    wanted += [f"adopt: {it}" for it in ("OtherService", "IsArchive", "Adopted", "Nothing", "Conflict", "Torn", "OutOfRange", "SetLimit")]
+    wanted += [f"adopt: {name}" for name in ("OtherService", "IsArchive", "Adopted", "Nothing", "Conflict", "Torn", "OutOfRange", "SetLimit")]
     wanted += ["seal: StartNotLater", "seal: Unexported", "export: TimeNotLater", "take: TimeNotAfterStart", "take: NegativeTotal"]
-    return [f"no schedule has any of: {it}" for it in wanted if not counts[it]]
+    return [f"no schedule has any of: {name}" for name in wanted if not counts[name]]
 
 
 def main():
@@ -174,7 +174,7 @@ def main():
     words.add_argument("--soak", type=int, default=INCARNATIONS)
     words.add_argument("programs", nargs="*", type=pathlib.Path)
     asked = words.parse_args()
-    programs = [it.resolve() for it in asked.programs] or [it for it in (TOP / "crates" / "archivists" / "out" / name for name in BUILDS) if it.is_file()]
+    programs = [path.resolve() for path in asked.programs] or [path for path in (TOP / "crates" / "archivists" / "out" / name for name in BUILDS) if path.is_file()]
     if not programs:
         print("NO PROGRAM: rt ci, or rt run in crates/archivists, makes it")
         return True

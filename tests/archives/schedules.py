@@ -81,7 +81,7 @@ class Schedule:
         self.workers.append(Worker(service, self.instances, self.tick(), value, self.chance.randint(1, 5)))
 
     def live(self):
-        return [it for it in self.workers if it.adopted is None] or self.workers
+        return [worker for worker in self.workers if worker.adopted is None] or self.workers
 
     def restart(self):
         before = self.chance.choice(self.live())
@@ -115,14 +115,14 @@ class Schedule:
         self.answered(f"take {keeper} {worker} {worker.incarnation.start} {time} {value}{counted}", "take", took)
 
     def take(self):
-        live = [it for it in self.live() if not self.is_tame or it.adopted is None]
+        live = [worker for worker in self.live() if not self.is_tame or worker.adopted is None]
         if not live:
             self.worker()
             live = self.workers[-1:]
         self.exported(self.chance.choice(live))
 
     def zombie(self):
-        ended = [it for it in self.workers if it.adopted is not None]
+        ended = [worker for worker in self.workers if worker.adopted is not None]
         if ended and not self.is_tame:
             self.counts["zombies"] += 1
             self.exported(self.chance.choice(ended))
@@ -147,12 +147,12 @@ class Schedule:
     def adopt(self):
         archive, keeper = self.chance.randint(1, 2), self.chance.randint(1, KEEPERS)
         held = {key.incarnation: cell.time for key, cell in self.keepers[keeper - 1].points.items()}
-        mine = [it for it in self.workers if self.is_of(it, archive) and (it.incarnation in held or self.chance.random() < 0.05)]
+        mine = [worker for worker in self.workers if self.is_of(worker, archive) and (worker.incarnation in held or self.chance.random() < 0.05)]
         if self.is_tame:
-            mine = [it for it in mine if it.adopted is None and it.newest and it.newest[2] == held.get(it.incarnation)]
+            mine = [worker for worker in mine if worker.adopted is None and worker.newest and worker.newest[2] == held.get(worker.incarnation)]
         if not mine:
             return
-        spoilt = [it for it in mine if self.is_spoilt(keeper, it)]
+        spoilt = [worker for worker in mine if self.is_spoilt(keeper, worker)]
         worker = self.chance.choice(spoilt if spoilt and self.chance.random() < 0.5 else mine)
         part = [cell for key, cell in self.keepers[keeper - 1].points.items() if key.incarnation == worker.incarnation]
 
@@ -243,7 +243,7 @@ class Schedule:
 
     def points(self, keeper=None):
         keeper = keeper or self.chance.randint(1, KEEPERS)
-        self.say(f"points {keeper}", {plain.line_of(*it) for it in self.keepers[keeper - 1].points.items()})
+        self.say(f"points {keeper}", {plain.line_of(*point) for point in self.keepers[keeper - 1].points.items()})
 
     def page(self, keeper=None):
         """A page. Where workers end before they are adopted, no row of it falls."""
@@ -302,7 +302,7 @@ class Schedule:
 
     def is_counted_once(self):
         """Whether the total is that of each adopted collection, and of each other incarnation's newest one, once."""
-        recorded = sum(it.adopted if it.adopted is not None else newest_total(it) for it in self.workers)
+        recorded = sum(worker.adopted if worker.adopted is not None else newest_total(worker) for worker in self.workers)
         return self.keepers[0].held()[2] == recorded
 
     def play(self, events):

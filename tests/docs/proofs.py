@@ -19,8 +19,8 @@ PROOFS = {"Answers.antt", "Invariants.antt", "Proof.antt"}
 
 def modules():
     """Each module, as (crate, name), with its file."""
-    files = [it for it in sorted(TOP.glob("crates/*/proofs/*.antt")) if it.name not in PROOFS | {"Lib.antt"}]
-    return {(it.parts[-3], it.stem): it for it in files}
+    files = [file for file in sorted(TOP.glob("crates/*/proofs/*.antt")) if file.name not in PROOFS | {"Lib.antt"}]
+    return {(file.parts[-3], file.stem): file for file in files}
 
 
 def about(file):
@@ -35,7 +35,7 @@ def citers(known):
         crate, inside = file.parts[len(TOP.parts) + 1], file.relative_to(file.parents[len(file.parts) - len(TOP.parts) - 4])
         whose = f"{crate}/{inside.parent}" if file.name in PROOFS else f"{crate}/{file.stem}"
         for of, path, name in USE.findall(file.read_text(encoding="utf-8")):
-            for module in [(of, name), *((of, it) for it in path.split(".") if it)]:
+            for module in [(of, name), *((of, part) for part in path.split(".") if part)]:
                 if module in known and file != known[module]:
                     found[module].add(whose)
     for file in TOP.glob("crates/*/src/**/*.rt"):
@@ -55,7 +55,7 @@ def main(words):
         return 1 if lonely else 0
     for (crate, name), file in known.items():
         if not words or crate in words:
-            whose = sorted(it.removeprefix(f"{crate}/") for it in found[crate, name])
+            whose = sorted(one.removeprefix(f"{crate}/") for one in found[crate, name])
             print(f"{crate}/{name}: {about(file)}\n    cited by {len(whose)}: {', '.join(whose[:8])}{' ..' if whose[8:] else ''}")
     return 0
 

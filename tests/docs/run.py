@@ -34,7 +34,7 @@ import re
 import sys
 
 TOP = pathlib.Path(sys.argv[1] if sys.argv[1:] else pathlib.Path(__file__).resolve().parents[2]).resolve()
-PAGES = ["README.md", "CONTRIBUTING.md", *sorted(str(it.relative_to(TOP)) for it in (TOP / "docs").glob("*/*.md"))]
+PAGES = ["README.md", "CONTRIBUTING.md", *sorted(str(page.relative_to(TOP)) for page in (TOP / "docs").glob("*/*.md"))]
 MOST_WORDS, MOST_WIDE, MOST_IN_CELL = 29, 140, 200
 # The program that README copies to another repository.
 COPIED = "crates/uses/src/first.rt"
@@ -43,7 +43,7 @@ FOREIGN = {"arrayvec::ArrayString", "Equivalent", "clap", "HANDLES", "libc_c", "
 # (OpenTelemetry's and its Collector's, CMake's, gunicorn's, and what Prometheus makes of names)
 FOREIGN |= {"OTLPMetricExporter", "otlphttp", "deltatocumulative", "CMAKE_PREFIX_PATH", "post_fork", "exported_instance", "exported_job", "meters_per_second"}
 # The pages whose names are those of the SDKs and of the service, and not of Rattle.
-OF_OTHERS = {f"docs/use/{it}.md" for it in ("C", "CPP", "GO", "PYTHON", "RUST", "SDK", "SERVICE")}
+OF_OTHERS = {f"docs/use/{name}.md" for name in ("C", "CPP", "GO", "PYTHON", "RUST", "SDK", "SERVICE")}
 # A page of both, whose names in small letters are the service's.
 REASONS = "docs/use/INTEROP.md"
 # A name of a thing in such a page: parts, and what is called with.
@@ -104,7 +104,7 @@ def passages(text):
             yield open_at, " ".join(lines)
             lines = []
         if line.startswith("|") and not is_fenced:
-            yield from ((number, it) for it in line.strip("|").split("|"))
+            yield from ((number, cell) for cell in line.strip("|").split("|"))
         elif not is_fenced and line and not line.startswith(("#", "<!--", "```")):
             open_at, lines = number if not lines else open_at, [*lines, line]
 
@@ -121,14 +121,14 @@ def long_sentences(text):
 
 def crates():
     """The crates of the kit, with what crates.txt says that each stands on."""
-    lines = [it for it in text_of(TOP / "crates.txt").splitlines() if it and not it.startswith("#")]
-    return {it.split(":")[0].split()[0]: it.split(":")[1].split() for it in lines}
+    lines = [line for line in text_of(TOP / "crates.txt").splitlines() if line and not line.startswith("#")]
+    return {line.split(":")[0].split()[0]: line.split(":")[1].split() for line in lines}
 
 
 def functions():
     """Each function by its crate, type (None for none) and name, with its clauses: one set for each that has this name."""
     found = collections.defaultdict(list)
-    files = [it for it in sorted(TOP.glob("crates/*/src/**/*.rt")) if it.stem != "tests" and it.parent.name != "tests"]
+    files = [file for file in sorted(TOP.glob("crates/*/src/**/*.rt")) if file.stem != "tests" and file.parent.name != "tests"]
     for file in files:
         crate, owner, inside = file.relative_to(TOP).parts[1], None, None
         for line in text_of(file).splitlines():
@@ -153,9 +153,9 @@ class Docs:
     def __init__(self):
         self.crates, self.functions, self.faults, self.claims = crates(), functions(), [], 0
         kinds = ("rt", "antt", "edit", "rs", "py", "go", "h", "c", "cpp", "hpp", "in", "cmake", "toml", "json", "yml")
-        code = [it for kind in kinds for it in TOP.glob(f"*/**/*.{kind}")]
-        code = [it for it in code if not {"out", "target"} & set(it.relative_to(TOP).parts) and it.parent != TOP / "tests" / "docs"]
-        self.words = {word for it in code for word in [it.stem, *re.findall(r"\w+", text_of(it))]}
+        code = [file for kind in kinds for file in TOP.glob(f"*/**/*.{kind}")]
+        code = [file for file in code if not {"out", "target"} & set(file.relative_to(TOP).parts) and file.parent != TOP / "tests" / "docs"]
+        self.words = {word for file in code for word in [file.stem, *re.findall(r"\w+", text_of(file))]}
         self.words.update(re.findall(r"\w+", text_of(TOP / "crates.txt")))
 
     def fault(self, where, what):
@@ -163,11 +163,11 @@ class Docs:
 
     def stand(self, crate, owner, name):
         """The clauses of each function of this name: of the type where it has one, or of none."""
-        kinds = [(it, found) for it, found in self.functions.items() if it[2] == name and crate in (None, it[0])]
-        return [one for it, found in kinds if it[1] == owner for one in found] or [one for it, found in kinds if it[1] is None for one in found]
+        kinds = [(key, found) for key, found in self.functions.items() if key[2] == name and crate in (None, key[0])]
+        return [one for key, found in kinds if key[1] == owner for one in found] or [one for key, found in kinds if key[1] is None for one in found]
 
     def is_spec(self, crate, word):
-        return any(re.search(rf"\b{word}\b", text_of(it)) for it in TOP.glob(f"crates/{crate or '*'}/specs/**/*.antt"))
+        return any(re.search(rf"\b{word}\b", text_of(file)) for file in TOP.glob(f"crates/{crate or '*'}/specs/**/*.antt"))
 
     def check_claim(self, where, crate, owner, calls, clauses):
         """Whether each call has each clause; gives the type of the last one."""
@@ -181,7 +181,7 @@ class Docs:
                 self.claims += 1
                 if found and clause[0].isupper() and not self.is_spec(crate, clause):
                     self.fault(where, f"no word `{clause}` in the specs of {crate or 'any crate'}")
-                elif found and clause[0].islower() and not any(clause in it for it in found):
+                elif found and clause[0].islower() and not any(clause in one for one in found):
                     self.fault(where, f"`{call}` has no clause `{clause}`")
         return owner
 
@@ -192,19 +192,19 @@ class Docs:
             if turned["calls"].strip("`") not in self.crates:
                 self.check_claim(where, crate, None, spans(turned["calls"]), spans(turned["clauses"]))
         owner = None
-        for claim in CLAIM.finditer(TURNED.sub(lambda it: it[0] if it["calls"].strip("`") in self.crates else "", cell)):
+        for claim in CLAIM.finditer(TURNED.sub(lambda found: found[0] if found["calls"].strip("`") in self.crates else "", cell)):
             calls, clauses = spans(claim["calls"]), spans(claim["group"] or "")
             if clauses:
                 owner = self.check_claim(where, claim["crate"] or crate, owner, calls, clauses)
             else:
-                named = [it for it in calls if re.fullmatch(r"\w+::\w+|[a-z]\w*_\w+", it) and it not in self.crates]
+                named = [call for call in calls if re.fullmatch(r"\w+::\w+|[a-z]\w*_\w+", call) and call not in self.crates]
                 owner = self.check_claim(where, claim["crate"] or crate, owner, named, [])
 
     def check_rows(self, page):
         """The rows of a page whose first cell is a crate, or empty below one; and all rows of PROMISES."""
         crate = None
         for number, line in enumerate(text_of(TOP / page).splitlines(), 1):
-            cells = [it.strip() for it in line.strip("|").split("|")] if line.startswith("|") else []
+            cells = [cell.strip() for cell in line.strip("|").split("|")] if line.startswith("|") else []
             crate = cells[0] if cells and cells[0] in self.crates else crate if cells and not cells[0] else None
             if cells and (crate or page == "docs/design/PROMISES.md"):
                 for cell in cells:
@@ -248,17 +248,17 @@ class Docs:
         file = ((TOP / page).parent / path).resolve() if path else TOP / page
         if not file.exists():
             self.fault(where, f"the link {target} leads to no file")
-        elif heading and heading not in [re.sub(r"[^\w -]", "", it).strip().lower().replace(" ", "-") for it in re.findall(r"^#+ (.*)$", text_of(file), re.M)]:
+        elif heading and heading not in [re.sub(r"[^\w -]", "", title).strip().lower().replace(" ", "-") for title in re.findall(r"^#+ (.*)$", text_of(file), re.M)]:
             self.fault(where, f"the link {target} leads to no heading")
 
     def check_name(self, where, span):
         if PATH.fullmatch(span):
             return
         call = re.fullmatch(r"(\w+)::([a-z_]\w*)(?:\(.*\))?", span)
-        if call and not any(it[1:] == call.groups() for it in self.functions):
+        if call and not any(function[1:] == call.groups() for function in self.functions):
             self.fault(where, f"no function `{call[1]}::{call[2]}`")
         name = re.fullmatch(r"(\w+(?:::\w+)*)(?: [a-z])?", span)
-        if name and span not in FOREIGN and not span.isdigit() and any(it not in self.words for it in name[1].split("::")):
+        if name and span not in FOREIGN and not span.isdigit() and any(part not in self.words for part in name[1].split("::")):
             self.fault(where, f"`{name[1]}` stands nowhere in the code")
 
     def check_other(self, where, span):
@@ -268,15 +268,15 @@ class Docs:
             return
         for part in re.split(r"::|\.|->", name[1]):
             is_there = part in self.words or part.upper() in self.words
-            is_there |= part[0] == "_" and any(it.endswith(part.removesuffix("_total")[1:]) for it in self.words)
+            is_there |= part[0] == "_" and any(word.endswith(part.removesuffix("_total")[1:]) for word in self.words)
             if not is_there and not part.isdigit():
                 self.fault(where, f"`{span}` stands nowhere in the code: {part}")
 
     def check_paths(self):
         """Each path of the repository that a file names is there: in prose, in a command or in code. What a build leaves in out/ need not be."""
         for folder, folders, names in os.walk(TOP):
-            folders[:] = [it for it in folders if it not in UNREAD_FOLDERS]
-            for file in (pathlib.Path(folder, it) for it in names if not it.endswith(UNREAD_FILES)):
+            folders[:] = [folder for folder in folders if folder not in UNREAD_FOLDERS]
+            for file in (pathlib.Path(folder, name) for name in names if not name.endswith(UNREAD_FILES)):
                 where = file.relative_to(TOP)
                 for number, line in enumerate(text_of(file).splitlines(), 1):
                     for path in PATH.findall(line):
@@ -297,7 +297,7 @@ class Docs:
     def check_tables(self):
         page = "docs/design/ARCHITECTURE.md"
         rows = re.findall(r"^\| ([\w, ]+?) \|[^|]*\|$", text_of(TOP / page), re.M)
-        named = [it for row in rows for it in row.split(", ")]
+        named = [crate for row in rows for crate in row.split(", ")]
         drawn = {}
         for line in text_of(TOP / page).splitlines():
             name, *words = line.split() if line.startswith("    ") else [""]
@@ -313,7 +313,7 @@ class Docs:
                 name = waiting.pop()
                 waiting += [] if name in reached else drawn.get(name, [])
                 reached.add(name)
-            wrong = set(drawn.get(crate, [])) - set(below) | {it for it in below if it in self.crates} - reached
+            wrong = set(drawn.get(crate, [])) - set(below) | {name for name in below if name in self.crates} - reached
             if crate not in drawn or wrong:
                 self.fault(page, f"{crate} is not drawn as crates.txt has it: {', '.join(sorted(wrong)) or 'missing'}")
 
@@ -324,10 +324,10 @@ class Docs:
         named = set(re.findall(r"(?:^use |^ghost use Rattle\.|-> )(\w+)(?:::|\.)", text_of(TOP / COPIED), re.M)) - {"std"}
         if not line or set(line[1].split()) != named:
             self.fault("README.md", f"the line of crates.txt for {COPIED} is to name {', '.join(sorted(named))}")
-        reached, waiting = set(), [it for it in named if it in self.crates]
+        reached, waiting = set(), [crate for crate in named if crate in self.crates]
         while waiting:
             name = waiting.pop()
-            waiting += [it for it in self.crates[name] if it in self.crates and it not in reached]
+            waiting += [crate for crate in self.crates[name] if crate in self.crates and crate not in reached]
             reached.add(name)
         wrong = reached ^ set(loop[1].split() if loop else [])
         if wrong:
@@ -338,10 +338,10 @@ class Docs:
             file = TOP / "crates" / crate / "src" / "lib.rt"
             if not file.is_file():
                 continue
-            page = [it.removeprefix("//!").removeprefix(" ") for it in text_of(file).splitlines() if it.startswith("//!")]
-            shown = [it.strip() for it in page if it.startswith("    ")]
+            page = [line.removeprefix("//!").removeprefix(" ") for line in text_of(file).splitlines() if line.startswith("//!")]
+            shown = [line.strip() for line in page if line.startswith("    ")]
             named = re.findall(r"`((?:crates|sdk)/[\w/]+\.\w+)`", "\n".join(page))
-            lines = {it.strip() for name in named if (TOP / name).is_file() for it in text_of(TOP / name).splitlines()}
+            lines = {line.strip() for name in named if (TOP / name).is_file() for line in text_of(TOP / name).splitlines()}
             self.claims += len(shown)
             if not shown and crate not in PAGES_ALONE:
                 self.fault(file.relative_to(TOP), "the page shows no caller")
@@ -349,7 +349,7 @@ class Docs:
                 if line not in lines:
                     self.fault(file.relative_to(TOP), f"the page shows a line that its caller has not: {line}")
             for link in re.findall(r"\[`(\w+(?:::\w+)*)`\]", "\n".join(page)):
-                if not any(link.rpartition("::")[2] in text_of(it) for it in file.parent.glob("**/*.rt") if it != file):
+                if not any(link.rpartition("::")[2] in text_of(other) for other in file.parent.glob("**/*.rt") if other != file):
                     self.fault(file.relative_to(TOP), f"the page links {link}, which stands nowhere in the crate")
             for told in re.findall(r"\bspecs\b[^.]*\.(?!\w)", "\n".join(page).replace("specs/", "specs")):
                 for name in re.findall(r"(?<!\[)`([A-Z]\w+)`", told):
@@ -361,8 +361,8 @@ class Docs:
         """The files that CONTRIBUTING lists under `<!-- rooms: WORD -->` are those whose code names the word."""
         page = "CONTRIBUTING.md"
         for word, listed in re.findall(r"^<!-- rooms: (\S+) -->\n\n((?:- .*\n)+)", text_of(TOP / page), re.M):
-            files = [it for it in TOP.glob("crates/*/src/**/*.rt") if it.stem != "tests" and it.parent.name != "tests"]
-            there = {str(it.relative_to(TOP)) for it in files if re.search(rf"^(?!\s*//).*\b{word}\b", text_of(it), re.M)}
+            files = [file for file in TOP.glob("crates/*/src/**/*.rt") if file.stem != "tests" and file.parent.name != "tests"]
+            there = {str(file.relative_to(TOP)) for file in files if re.search(rf"^(?!\s*//).*\b{word}\b", text_of(file), re.M)}
             self.claims += len(there)
             for file in sorted(there ^ set(spans(listed))):
                 self.fault(page, f"{file} {'names' if file in there else 'does not name'} {word}, and is {'not ' if file in there else ''}among its rooms")
@@ -370,10 +370,10 @@ class Docs:
     def check_texts(self):
         """The files that CONTRIBUTING lists under `<!-- texts: WORDS -->` are those that have the words."""
         page, kinds = "CONTRIBUTING.md", {".rt", ".antt", ".md", ".py", ".c", ".h", ".go", ".rs", ".hpp", ".cpp"}
-        files = [it for folder in ("crates", "docs", "sdk", "service", "tests") for it in TOP.glob(f"{folder}/**/*") if it.suffix in kinds]
-        files = [it for it in files if not UNREAD_FOLDERS & set(it.relative_to(TOP).parts)]
+        files = [file for folder in ("crates", "docs", "sdk", "service", "tests") for file in TOP.glob(f"{folder}/**/*") if file.suffix in kinds]
+        files = [file for file in files if not UNREAD_FOLDERS & set(file.relative_to(TOP).parts)]
         for words, listed in re.findall(r"^<!-- texts: (.+) -->\n\n((?:- .*\n)+)", text_of(TOP / page), re.M):
-            there = {str(it.relative_to(TOP)) for it in files if words in text_of(it)}
+            there = {str(file.relative_to(TOP)) for file in files if words in text_of(file)}
             self.claims += len(there)
             for file in sorted(there ^ set(spans(listed))):
                 self.fault(page, f"{file} {'has' if file in there else 'has not'} '{words}', and is {'not ' if file in there else ''}in its list")
@@ -397,15 +397,15 @@ class Docs:
 
     def check_callers(self):
         """What a library re-exports in its lib.rt and defines as a type has a caller: one that imports it, or whose clauses name it."""
-        texts = [text_of(it) for it in TOP.glob("crates/uses/src/**/*.rt")]
+        texts = [text_of(file) for file in TOP.glob("crates/uses/src/**/*.rt")]
         guide = text_of(TOP / "docs" / "use" / "GUIDE.md")
         for name in re.findall(r"^pub fn (\w+)", "\n".join(texts), re.M):
             self.claims += 1
             if f"`{name}`" not in guide:
                 self.fault("docs/use/GUIDE.md", f"its callers are without `{name}`")
-        imports = [it for text in texts for it in re.findall(r"^use (\w+)::([^;]*);", text, re.M)]
+        imports = [found for text in texts for found in re.findall(r"^use (\w+)::([^;]*);", text, re.M)]
         called = {(crate, name) for crate, names in imports for name in re.findall(r"\w+", names)}
-        cited = {it for text in texts for it in re.findall(r"^ghost use Rattle\.(\w+)\.specs\.declared\.[\w.]*?(\w+)(?:\.TheVariants)?(?:\.\{| as )", text, re.M)}
+        cited = {found for text in texts for found in re.findall(r"^ghost use Rattle\.(\w+)\.specs\.declared\.[\w.]*?(\w+)(?:\.TheVariants)?(?:\.\{| as )", text, re.M)}
         for crate in self.crates:
             folder = TOP / "crates" / crate / "src"
             if crate in ("uses", "kit_c") or not (folder / "lib.rt").is_file():

@@ -16,13 +16,13 @@ WHOLE = re.compile(r"`[^`]*`|\[[^\]]*\]\([^)]*\)")
 
 def laid_out(block):
     """The lines of a paragraph, none wider than it may be."""
-    if all(len(it) <= WIDE for it in block):
+    if all(len(line) <= WIDE for line in block):
         return block
-    indent, mark = (it or "" for it in ITEM.match(block[0]).groups())
-    text = " ".join(it.strip() for it in block).removeprefix(mark)
-    text = WHOLE.sub(lambda it: it[0].replace(" ", "\0"), text)
+    indent, mark = (part or "" for part in ITEM.match(block[0]).groups())
+    text = " ".join(line.strip() for line in block).removeprefix(mark)
+    text = WHOLE.sub(lambda found: found[0].replace(" ", "\0"), text)
     lines = textwrap.wrap(text, WIDE, initial_indent=indent + mark, subsequent_indent=indent + " " * len(mark), break_long_words=False, break_on_hyphens=False)
-    return [it.replace("\0", " ") for it in lines]
+    return [line.replace("\0", " ") for line in lines]
 
 
 def wrapped(text):

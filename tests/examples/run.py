@@ -40,7 +40,7 @@ SENTENCES_HEADING = "## What is wrong with a bad line"
 SENTENCES = "crates/script_kit/src/sentence.rt"
 NAMES = "crates/script_kit/src/reason.rt"
 NOTES_HEADING = "## What else is told of a script"
-NOTES = [f"crates/otm_kit/src/{it}.rt" for it in ("notes", "misplans", "unmatched")]
+NOTES = [f"crates/otm_kit/src/{name}.rt" for name in ("notes", "misplans", "unmatched")]
 
 NO_COMMAND = b"""error: 'otm' requires a subcommand but one was not provided
   [subcommands: run, fleet, help]
@@ -282,10 +282,10 @@ def many_pairs():
     keys = [b"key.%d" % (number * 7919 % MANY) for number in range(MANY)]
     half = keys[::2]
     ends = b"collect a 200\ndeliver 1 1\nreport 1 app requests 1 sum+ * - *\nreport 1 app requests 1 sum+ * - %s\n" % b",".join(half)
-    script = COUNTER + b"begin\nmeasure a c 7 " + b",".join(it + b"=true" for it in keys) + b"\n" + ends
-    cells = [b"{" + b",".join(it + b"=true" for it in sorted(held)) + b"}" for held in (keys, half)]
+    script = COUNTER + b"begin\nmeasure a c 7 " + b",".join(key + b"=true" for key in keys) + b"\n" + ends
+    cells = [b"{" + b",".join(key + b"=true" for key in sorted(held)) + b"}" for held in (keys, half)]
     head, row = b"attributes".ljust, b"       1          0  7\n"
-    return script, b"".join(head(len(it)) + HEADER.removeprefix(b"attributes") + it + row for it in cells)
+    return script, b"".join(head(len(cell)) + HEADER.removeprefix(b"attributes") + cell + row for cell in cells)
 
 
 def many_notes():
@@ -364,7 +364,7 @@ def quotes():
 def quote():
     """Writes each quotation of a page anew."""
     for page in map(TOP.joinpath, PAGES):
-        page.write_text(QUOTED.sub(lambda it: it[1] + (function_of((TOP / it[2]).read_text(), it[3], it[4]) or it[5]) + "```", page.read_text()))
+        page.write_text(QUOTED.sub(lambda found: found[1] + (function_of((TOP / found[2]).read_text(), found[3], found[4]) or found[5]) + "```", page.read_text()))
 
 
 def shown():
@@ -380,14 +380,14 @@ def texts_of(file):
     text = (TOP / file).read_text()
     constant = r'^const ([A-Z_]+): &str =\s*"([^"]*)";$'
     named = dict(re.findall(constant, text, re.M))
-    texts = [it for it in re.findall(r'"([^"]*)"', re.sub(constant, "", text, flags=re.M)) if " " in it]
-    return [re.sub(r"{([A-Z_]+)}", lambda gap: named[gap[1]], it) for it in texts]
+    texts = [found for found in re.findall(r'"([^"]*)"', re.sub(constant, "", text, flags=re.M)) if " " in found]
+    return [re.sub(r"{([A-Z_]+)}", lambda gap: named[gap[1]], found) for found in texts]
 
 
 def listed_below(heading):
     """What COMMANDS_PAGE lists below a heading, in the first cells of its tables."""
     section = (TOP / COMMANDS_PAGE).read_text().split(f"{heading}\n")[1].split("\n## ")[0]
-    return {it for cell in re.findall(r"^\| (`.*?) \| ", section, re.M) for it in re.findall(r"`([^`]+)`", cell)}
+    return {found for cell in re.findall(r"^\| (`.*?) \| ", section, re.M) for found in re.findall(r"`([^`]+)`", cell)}
 
 
 def row_sentences():
@@ -403,30 +403,30 @@ def filled(text, gaps):
 def compared(patterns, whole, tried, told):
     """Each text by its pattern, whether it was tried and is told; and each that is told, whether it is a whole text."""
     for name, pattern in patterns:
-        here, there = (any(re.fullmatch(pattern, it) for it in them) for them in (tried, told))
+        here, there = (any(re.fullmatch(pattern, one) for one in them) for them in (tried, told))
         yield f"{COMMANDS_PAGE}: {name}", "" if here and there else "the page has it not" if here else "nothing here gets it"
     for sentence in sorted(told):
-        yield f"{COMMANDS_PAGE}: {sentence}", "" if any(re.fullmatch(it, sentence) for it in whole) else "the program has no such text"
+        yield f"{COMMANDS_PAGE}: {sentence}", "" if any(re.fullmatch(pattern, sentence) for pattern in whole) else "the program has no such text"
 
 
 def told_sentences():
     """Each text of SENTENCES and of NAMES, and each sentence of COMMANDS_PAGE; and what is wrong with it, or an empty text."""
-    tried = {it for _, lines in bad_lines() for _, it in lines} | row_sentences()
+    tried = {line for _, lines in bad_lines() for _, line in lines} | row_sentences()
     texts, names = texts_of(SENTENCES), texts_of(NAMES)
     # (a text has gaps for a word, for a form or a noun, which NAMES has, for what is odd there, which begins with a comma, and for what is meant)
-    odd, meant = ({it: filled(it, {}) for it in texts if it.startswith(mark)} for mark in (", ", "; "))
+    odd, meant = ({text: filled(text, {}) for text in texts if text.startswith(mark)} for mark in (", ", "; "))
     named = f"(?:{'|'.join(map(re.escape, names))})"
     gaps = {"form": named, "noun": named, "odd": f"(?:{'|'.join(odd.values())})?", "meant": f"(?:{'|'.join(meant.values())})?"}
-    whole = {it: filled(it, gaps) for it in texts if it not in odd | meant}
+    whole = {text: filled(text, gaps) for text in texts if text not in odd | meant}
     ends = {name: f".* {re.escape(name)}" for name in names} | {name: f".*{pattern}" for name, pattern in (odd | meant).items()}
     yield from compared([*whole.items(), *ends.items()], whole.values(), tried, listed_below(SENTENCES_HEADING))
 
 
 def told_notes():
     """Each text of NOTES, and each note of COMMANDS_PAGE; and what is wrong with it, or an empty text."""
-    texts = [it for file in NOTES for it in texts_of(file) if "{note}" not in it]
+    texts = [text for file in NOTES for text in texts_of(file) if "{note}" not in text]
     stream = " ".join([r"[!-~]+"] * 4)
-    whole = {it: filled(it, {"named": stream, "near": stream}) for it in texts}
+    whole = {text: filled(text, {"named": stream, "near": stream}) for text in texts}
     yield from compared(whole.items(), whole.values(), row_sentences(), listed_below(NOTES_HEADING))
 
 

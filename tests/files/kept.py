@@ -76,42 +76,42 @@ class Writing:
 
 def export(service, instance, start, time, points):
     """The bytes of an export, each of whose points is a stream, attributes and a payload."""
-    it = Writing(b"KTSK\2")
-    it.writer(service, instance)
-    it.number(start)
-    it.number(time)
-    it.number(len(points))
+    writing = Writing(b"KTSK\2")
+    writing.writer(service, instance)
+    writing.number(start)
+    writing.number(time)
+    writing.number(len(points))
     before = None
     for stream, attrs, payload in points:
-        it.number(int(stream != before))
+        writing.number(int(stream != before))
         if stream != before:
-            it.stream(stream)
+            writing.stream(stream)
         before = stream
-        it.attributes(attrs)
-        it.payload(stream[3], payload)
-    return it.sealed()
+        writing.attributes(attrs)
+        writing.payload(stream[3], payload)
+    return writing.sealed()
 
 
 def message(sender, receiver, cells, delta=None):
     """The bytes of a message with these cells, which stand in the order of their keys: writer, start, stream, attributes, time, payload."""
-    it = Writing(b"KTSM\2" + number(sender) + number(receiver) + (b"\0" if delta is None else b"\1" + number(delta)))
-    it.number(len(cells))
+    writing = Writing(b"KTSM\2" + number(sender) + number(receiver) + (b"\0" if delta is None else b"\1" + number(delta)))
+    writing.number(len(cells))
     before = (None, None)
     for writer, start, stream, attrs, time, payload in cells:
         shared = (before[0] == (writer, start)) + (before == ((writer, start), stream))
-        it.number(shared)
+        writing.number(shared)
         if shared < 1:
-            it.writer(*writer)
-            it.number(start)
+            writing.writer(*writer)
+            writing.number(start)
         if shared < 2:
-            it.stream(stream)
+            writing.stream(stream)
         before = ((writer, start), stream)
-        it.attributes(attrs)
-        it.number(time)
-        it.payload(stream[3], payload)
-    return it.sealed()
+        writing.attributes(attrs)
+        writing.number(time)
+        writing.payload(stream[3], payload)
+    return writing.sealed()
 
 
 def ack(sender, receiver, change):
-    it = Writing(b"KTSM\2" + number(sender) + number(receiver) + b"\2" + number(change))
-    return it.sealed()
+    writing = Writing(b"KTSM\2" + number(sender) + number(receiver) + b"\2" + number(change))
+    return writing.sealed()

@@ -194,8 +194,8 @@ attributes    points  conflicts  total
 
 def ran(program, folder, words, given=b""):
     # (its texts call it by its first word, whichever build it is)
-    it = subprocess.run(["otm", *words], executable=program, cwd=folder, input=given, capture_output=True, timeout=SECONDS)
-    return it.returncode, it.stdout, it.stderr
+    ran = subprocess.run(["otm", *words], executable=program, cwd=folder, input=given, capture_output=True, timeout=SECONDS)
+    return ran.returncode, ran.stdout, ran.stderr
 
 
 def differs(did, wanted):
@@ -221,7 +221,7 @@ def states(program, folder):
     yield "a state of a bad file", differs(ran(program, folder, ["merge", "-o", "all.ktsm", "a.ktsk", "text.txt"]), (1, b"", None))
     yield "what stays then", "" if (folder / "all.ktsm").read_bytes() == before else "another file"
     (folder / "all.ktsm").unlink()
-    yield "files besides", "" if {it.name for it in folder.iterdir()} == set(FILES) else f"{sorted(it.name for it in folder.iterdir())}"
+    yield "files besides", "" if {path.name for path in folder.iterdir()} == set(FILES) else f"{sorted(path.name for path in folder.iterdir())}"
 
 
 def archives(program, folder):
@@ -281,7 +281,7 @@ def kept_files(program, folder, room):
     path, library = folder / "all.ktsm", calls(room)
 
     def kept(name, did, status, bytes_now, beside=()):
-        left = {it.name for it in folder.iterdir()} - others - {"all.ktsm"}
+        left = {path.name for path in folder.iterdir()} - others - {"all.ktsm"}
         fits = (did.returncode, did.stdout) == (status, b"") and did.stderr == (b"write failed\n" if status == 4 else b"")
         fits = fits and path.read_bytes() == bytes_now and left == set(beside)
         return name, "" if fits else f"{did}, {path.read_bytes()!r}, and beside it {left}"
@@ -357,7 +357,7 @@ def pages(program, folder):
 def told_bytes():
     """The bytes of the worked example of docs/design/BYTES.md."""
     rows = re.findall(r"^\| ([0-9 ,]+) \| ", BYTES.read_text().split("## A worked example")[1].split("\n## ")[0], re.M)
-    return bytes(int(it) for row in rows for it in re.findall(r"[0-9]+", row))
+    return bytes(int(found) for row in rows for found in re.findall(r"[0-9]+", row))
 
 
 def blocks():
@@ -392,7 +392,7 @@ def cases(program, folder, room):
 
 
 def main():
-    given = [pathlib.Path(it).resolve() for it in sys.argv[1:]]
+    given = [pathlib.Path(word).resolve() for word in sys.argv[1:]]
     programs = given or [path for path in (TOP / "crates" / "otm" / "out" / name for name in BUILDS) if path.is_file()]
     failed = not programs
     if failed:

@@ -83,7 +83,7 @@ def main():
     for program in programs:
         faults = [wrong(program, *row) for row in TOTALS] + [taken(program, options) for options in REFUSED] + [unwritten(program)]
         faults += [wrong(program, MANY, 3, 8_000) for _ in range(count)]
-        faults = [it for it in faults if it]
+        faults = [one for one in faults if one]
         for fault in faults[:6]:
             print(f"{program.name}: NOT AS TOLD: {fault}")
         print(f"{program.name}: {count + len(TOTALS)} fleets, {len(REFUSED)} refused words, a full device: {f'{len(faults)} NOT AS TOLD' if faults else 'as told'}")

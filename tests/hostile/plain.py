@@ -317,7 +317,7 @@ class Reading:
     def why_same(self, one, other):
         ours, theirs = self.fed(one), self.fed(other)
         if one is not other:
-            stream = next(it for _, it in theirs if it in [held for _, held in ours])
+            stream = next(one for _, one in theirs if one in [held for _, held in ours])
             return other["line"], f"the instruments of lines {one['line']} and {other['line']} have one stream, '{stream_words(stream)}'"
         for place, (line, stream) in enumerate(ours):
             for earlier, held in ours[:place]:

@@ -79,7 +79,7 @@ REFUSING = ("refused-events-change-nothing", "refused-by-second-feed", "times-mu
 ANSWERED = b"gateway 1\ngateway 2\nbegin\nsend 1 2\nhand 1 2\nhand 2 1\n"
 
 
-def done(program, script):
+def run_program(program, script):
     """What `otm run` does with a script: its status and what it wrote to both streams."""
     ran = subprocess.run([program, "run"], input=script, capture_output=True, timeout=faults.SECONDS, close_fds=False)
     return ran.returncode, ran.stdout, ran.stderr
@@ -108,7 +108,7 @@ def malformed(program, pool):
     """Does the scripts of which all is told. The number of them, and what was not as told."""
     rows = [*cut_scripts(), *((line + b"\n", b"line 1\n", 1) for line in BAD_FIRST_LINES), *SCRIPTS_TOLD]
     wrong = []
-    for (script, text, status), told in zip(rows, pool.map(lambda row: done(program, row[0]), rows)):
+    for (script, text, status), told in zip(rows, pool.map(lambda row: run_program(program, row[0]), rows)):
         if not is_told(told, status, text):
             wrong.append(f"{shown(script)}: status {told[0]}, {shown(told[1])}, {shown(told[2])}")
     return len(rows), wrong
@@ -179,7 +179,7 @@ def resent(maker, count):
 
 def soak(programs, all_scripts, pool):
     """Does scripts, a tenth of them by the second build too. How they ended, and what was wrong."""
-    answers = done(programs[0], ANSWERED)[1] == b""
+    answers = run_program(programs[0], ANSWERED)[1] == b""
     ends, wrong, works = {}, [], enumerate(all_scripts)
 
     def judged(work):
@@ -188,7 +188,7 @@ def soak(programs, all_scripts, pool):
         for program in programs:
             if number % SHARES[program.name]:
                 continue
-            told = done(program, script)
+            told = run_program(program, script)
             if not is_told(told, status, text, re.escape(notes)):
                 return script, told[0], f"{program.name}: status {told[0]}, {shown(told[1])}, {shown(told[2])}, not {shown(text)}, {shown(notes)}"
         return script, status, ""

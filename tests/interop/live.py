@@ -117,9 +117,9 @@ def serving(served):
 def free_port():
     """A port that is free, below those that the system gives to who asks for any: so nobody gets it until it is used."""
     while True:
-        with socket.socket() as it, contextlib.suppress(OSError):
-            it.bind(("127.0.0.1", random.randrange(20_000, 32_000)))
-            return it.getsockname()[1]
+        with socket.socket() as listening, contextlib.suppress(OSError):
+            listening.bind(("127.0.0.1", random.randrange(20_000, 32_000)))
+            return listening.getsockname()[1]
 
 
 @contextlib.contextmanager
@@ -164,7 +164,7 @@ def ask(port, query):
     address = f"http://127.0.0.1:{port}/api/v1/query?" + urllib.parse.urlencode({"query": query})
     with urllib.request.urlopen(address, timeout=ANSWER) as answer:
         found = json.load(answer)["data"]["result"]
-    return {series_of(it["metric"]): float(it["value"][1]) for it in found}
+    return {series_of(sample["metric"]): float(sample["value"][1]) for sample in found}
 
 
 def series_of(metric):
@@ -189,9 +189,9 @@ def hold(fault, told):
 
 def differing(found, wanted):
     """The first series of which one says another thing than the other."""
-    for it in sorted(found.keys() | wanted.keys()):
-        if found.get(it) != wanted.get(it):
-            return f"{it} is {found.get(it)}, and not {wanted.get(it)}"
+    for key in sorted(found.keys() | wanted.keys()):
+        if found.get(key) != wanted.get(key):
+            return f"{key} is {found.get(key)}, and not {wanted.get(key)}"
     return ""
 
 
@@ -201,7 +201,7 @@ def without_names(samples):
 
 def series_named(name, page):
     """The samples of this name on a page, by their labels."""
-    return without_names({it: value for it, value in samples_of(page.text).items() if it[0] == name})
+    return without_names({key: value for key, value in samples_of(page.text).items() if key[0] == name})
 
 
 def hold_growth(port, name, life):
@@ -222,7 +222,7 @@ def hold_growth(port, name, life):
 
 def kept_of(port, job):
     """The values that are kept of a job's last page."""
-    return {it: value for it, value in ask(port, f'{{job="{job}"}}').items() if not it[0].startswith(("scrape_", "up"))}
+    return {key: value for key, value in ask(port, f'{{job="{job}"}}').items() if not key[0].startswith(("scrape_", "up"))}
 
 
 def hold_page(port, job, page):
@@ -236,7 +236,7 @@ def hold_page(port, job, page):
 def hold_life(port, life):
     """The values in the end, and how they came."""
     hold_page(port, "life", life[-1])
-    for name in sorted({it[0] for it in samples_of(life[0].text) if RISES.fullmatch(it[0])}):
+    for name in sorted({key[0] for key in samples_of(life[0].text) if RISES.fullmatch(key[0])}):
         hold_growth(port, name, life)
     conflicts = ask(port, 'max_over_time(kotskhin_conflicts{job="life"}[5m])')
     hold("" if conflicts else "no conflict was seen", "a conflict came and went")
@@ -270,7 +270,7 @@ def with_pushgateway(folder, _):
     found = {}
     for (name, labels), value in kept.items():
         if ("job", "kit") in labels and not name.startswith("push_"):
-            found[name, tuple(it for it in labels if it[0] not in OF_SCRAPE)] = value
+            found[name, tuple(label for label in labels if label[0] not in OF_SCRAPE)] = value
     hold(differing(found, samples_of(page.text)), "the Pushgateway gives back each sample")
 
 

@@ -54,7 +54,7 @@ def pages():
     tests = TESTS.read_text(encoding="utf-8")
     parts = {name: json.loads(literal.replace("\n", "\\n")) for name, literal in PART.findall(tests)}
     for name, names in PAGE.findall(tests):
-        text = "".join(parts[it] for it in re.findall(r"\w+", names))
+        text = "".join(parts[name] for name in re.findall(r"\w+", names))
         yield Page(name, "openmetrics" if text.endswith("# EOF\n") else "prometheus", text)
 
 
@@ -65,9 +65,9 @@ def families(text):
 
 def python():
     """A Python that has Prometheus' client, if there is one."""
-    for it in (sys.executable, "/usr/bin/python3"):
-        if subprocess.run([it, "-c", "import prometheus_client"], capture_output=True, check=False).returncode == 0:
-            return it
+    for python in (sys.executable, "/usr/bin/python3"):
+        if subprocess.run([python, "-c", "import prometheus_client"], capture_output=True, check=False).returncode == 0:
+            return python
     return None
 
 
@@ -77,7 +77,7 @@ def fault_of(reader, page):
     if said.returncode:
         return said.stderr
     told = families(page.text)
-    read = {it + "_total" if page.form == "prometheus" and it + "_total" in told else it for it in said.stdout.split()}
+    read = {name + "_total" if page.form == "prometheus" and name + "_total" in told else name for name in said.stdout.split()}
     return "" if read == told else f"the parser reads the families {sorted(read)}"
 
 

@@ -95,12 +95,12 @@ class Trial:
 
     def kinds(self, toolchain="one"):
         book = self.book(toolchain)
-        return [book.kind(*it) for it in self.found()]
+        return [book.kind(*edit) for edit in self.found()]
 
     def all_refused(self):
         book = self.book()
-        for it in self.found():
-            book.note(*it, True)
+        for edit in self.found():
+            book.note(*edit, True)
         book.note_program(self.program, self.crates)
         book.write(self.found())
 

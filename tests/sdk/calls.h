@@ -55,86 +55,86 @@ static size_t encoded_len, told_len, posted_len;
 static _Thread_local kit_taken taken;
 
 /* A thing of a kind in an empty handle: of the scope app the counter requests, at no attributes 7, from shop since 100 at 200. */
-static void make(enum kind kind, kit_handle *it) {
+static void make(enum kind kind, kit_handle *made) {
     kit_handle one = {0}, two = {0}, three = {0};
     switch (kind) {
-    case PAIRS: MUST(kit_pairs_add_whole((void *)it, TEXT("status"), 200)); break;
+    case PAIRS: MUST(kit_pairs_add_whole((void *)made, TEXT("status"), 200)); break;
     case ATTRIBUTES:
         MUST(kit_pairs_add_text((void *)&one, TEXT("route"), TEXT("/cart")));
-        MUST(kit_attributes_make((void *)it, (void *)&one, &place));
+        MUST(kit_attributes_make((void *)made, (void *)&one, &place));
         break;
     case STREAMS:
         make(PLAN, &one);
-        MUST(kit_plan_streams((void *)&one, (void *)it));
+        MUST(kit_plan_streams((void *)&one, (void *)made));
         break;
     case INSTRUMENTS:
-        MUST(kit_instruments_add((void *)it, TEXT("app"), TEXT("requests"), TEXT("1"), KIT_COUNTER));
-        MUST(kit_instruments_add((void *)it, TEXT("app"), TEXT("depth"), TEXT("1"), KIT_GAUGE));
-        MUST(kit_instruments_add((void *)it, TEXT("app"), TEXT("size"), TEXT("By"), KIT_HISTOGRAM));
+        MUST(kit_instruments_add((void *)made, TEXT("app"), TEXT("requests"), TEXT("1"), KIT_COUNTER));
+        MUST(kit_instruments_add((void *)made, TEXT("app"), TEXT("depth"), TEXT("1"), KIT_GAUGE));
+        MUST(kit_instruments_add((void *)made, TEXT("app"), TEXT("size"), TEXT("By"), KIT_HISTOGRAM));
         break;
     case VIEW:
-        MUST(kit_view_of_name((void *)it, TEXT("size")));
-        MUST(kit_view_buckets((void *)it, bounds, 2));
+        MUST(kit_view_of_name((void *)made, TEXT("size")));
+        MUST(kit_view_buckets((void *)made, bounds, 2));
         break;
     case VIEWS:
         make(VIEW, &one);
-        MUST(kit_views_add((void *)it, (void *)&one));
+        MUST(kit_views_add((void *)made, (void *)&one));
         break;
-    case KEYS: MUST(kit_keys_add((void *)it, TEXT("status"))); break;
+    case KEYS: MUST(kit_keys_add((void *)made, TEXT("status"))); break;
     case PLAN:
         make(INSTRUMENTS, &one), make(VIEWS, &two);
-        MUST(kit_plan_build((void *)it, (void *)&one, (void *)&two, KIT_DEFAULT_LIMIT, &place, &second));
+        MUST(kit_plan_build((void *)made, (void *)&one, (void *)&two, KIT_DEFAULT_LIMIT, &place, &second));
         break;
     case WRITER:
         make(PLAN, &one), make(ATTRIBUTES, &two);
-        MUST(kit_writer_start((void *)it, (void *)&one, TEXT("shop"), 0, 1, 100));
-        MUST(kit_writer_hold((void *)it, 0, (void *)&two, &size));
-        for (size_t instrument = 0; instrument < 3; instrument++) MUST(kit_writer_measure((void *)it, instrument, (void *)&two, 7, &place));
+        MUST(kit_writer_start((void *)made, (void *)&one, TEXT("shop"), 0, 1, 100));
+        MUST(kit_writer_hold((void *)made, 0, (void *)&two, &size));
+        for (size_t instrument = 0; instrument < 3; instrument++) MUST(kit_writer_measure((void *)made, instrument, (void *)&two, 7, &place));
         break;
     case EXPORT:
         make(WRITER, &one);
-        MUST(kit_writer_collect((void *)&one, 200, (void *)it, &place));
+        MUST(kit_writer_collect((void *)&one, 200, (void *)made, &place));
         break;
-    case EXPORTS: MUST(kit_exports_of_otlp((void *)it, posted, posted_len, &place)); break;
+    case EXPORTS: MUST(kit_exports_of_otlp((void *)made, posted, posted_len, &place)); break;
     case GATEWAY:
         make(EXPORT, &one);
-        MUST(kit_gateway_open((void *)it, 1));
-        MUST(kit_gateway_take((void *)it, (void *)&one, &place, &truth));
+        MUST(kit_gateway_open((void *)made, 1));
+        MUST(kit_gateway_take((void *)made, (void *)&one, &place, &truth));
         break;
     case MESSAGE:
         make(EXPORT, &one);
         MUST(kit_gateway_open((void *)&two, 2));
         MUST(kit_gateway_take((void *)&two, (void *)&one, &place, &truth));
-        MUST(kit_gateway_send((void *)&two, 1, (void *)it));
+        MUST(kit_gateway_send((void *)&two, 1, (void *)made));
         break;
-    case ARCHIVE: MUST(kit_archive_begin((void *)it, TEXT("shop"), 8, 1, 300, 10)); break;
+    case ARCHIVE: MUST(kit_archive_begin((void *)made, TEXT("shop"), 8, 1, 300, 10)); break;
     case SEAT:
         make(WRITER, &one);
-        MUST(kit_writer_share((void *)&one, (void *)it));
+        MUST(kit_writer_share((void *)&one, (void *)made));
         break;
     case RECORDER:
         make(ATTRIBUTES, &one);
-        MUST(kit_recorder_new((void *)it, 8));
-        MUST(kit_recorder_measure((void *)it, 2, (void *)&one, 7));
-        MUST(kit_recorder_measure_held((void *)it, 0, 7));
+        MUST(kit_recorder_new((void *)made, 8));
+        MUST(kit_recorder_measure((void *)made, 2, (void *)&one, 7));
+        MUST(kit_recorder_measure_held((void *)made, 0, 7));
         break;
-    case ASK: MUST(kit_ask_sum((void *)it, TEXT("app"), TEXT("requests"), TEXT("1"), true)); break;
+    case ASK: MUST(kit_ask_sum((void *)made, TEXT("app"), TEXT("requests"), TEXT("1"), true)); break;
     case INCARNATIONS:
         make(GATEWAY, &one);
-        MUST(kit_gateway_incarnations((void *)&one, (void *)it));
+        MUST(kit_gateway_incarnations((void *)&one, (void *)made));
         break;
     case TOLD_TEXT:
         make(ROWS, &one);
-        MUST(kit_rows_table((void *)&one, (void *)it));
+        MUST(kit_rows_table((void *)&one, (void *)made));
         break;
     case BYTES:
         make(EXPORT, &one);
-        MUST(kit_export_encode((void *)&one, (void *)it));
+        MUST(kit_export_encode((void *)&one, (void *)made));
         break;
     case ROWS:
         make(GATEWAY, &one);
         MUST(kit_ask_histogram((void *)&two, TEXT("app"), TEXT("size"), TEXT("By"), bounds, 2));
-        MUST(kit_gateway_rows((void *)&one, (void *)&two, (void *)it));
+        MUST(kit_gateway_rows((void *)&one, (void *)&two, (void *)made));
         break;
     case NOTHING:
     case KINDS: break;

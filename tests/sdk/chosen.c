@@ -52,15 +52,15 @@ __extension__ typedef unsigned __int128 wide;
 
 /* The kit's hash (FoldHasher of Rattle's library) takes up to 8 bytes at a time. */
 static uint64_t fed(uint64_t state, const void *bytes, size_t len) {
-    uint8_t it[8] = {0};
+    uint8_t padded[8] = {0};
     uint32_t low, high;
     uint64_t number;
-    memcpy(it, bytes, len);
+    memcpy(padded, bytes, len);
     if (len >= 4) {
-        memcpy(&low, it, 4), memcpy(&high, it + len - 4, 4);
+        memcpy(&low, padded, 4), memcpy(&high, padded + len - 4, 4);
         number = low | (uint64_t)high << 32;
     } else {
-        number = len ? it[0] | (uint64_t)it[len / 2] << 8 | (uint64_t)it[len - 1] << 16 : 0;
+        number = len ? padded[0] | (uint64_t)padded[len / 2] << 8 | (uint64_t)padded[len - 1] << 16 : 0;
     }
     wide product = (wide)(state ^ number) * (MULTIPLIER ^ 2 * len);
     return (uint64_t)product ^ (uint64_t)(product >> 64);
@@ -145,20 +145,20 @@ static void told(kit_export *export_, kit_message *message) {
 }
 
 struct form {
-    int32_t (*encode)(kit_handle *it, kit_bytes *bytes);
-    int32_t (*decode)(kit_handle *it, const uint8_t *bytes, size_t len, uint64_t *at);
+    int32_t (*encode)(kit_handle *thing, kit_bytes *bytes);
+    int32_t (*decode)(kit_handle *thing, const uint8_t *bytes, size_t len, uint64_t *at);
 };
 /* An export or a message, by the handle that is in each. */
-static int32_t export_encoded(kit_handle *it, kit_bytes *bytes) { return kit_export_encode((kit_export *)it, bytes); }
+static int32_t export_encoded(kit_handle *thing, kit_bytes *bytes) { return kit_export_encode((kit_export *)thing, bytes); }
 
-static int32_t export_decoded(kit_handle *it, const uint8_t *bytes, size_t len, uint64_t *at) {
-    return kit_export_decode((kit_export *)it, bytes, len, at);
+static int32_t export_decoded(kit_handle *thing, const uint8_t *bytes, size_t len, uint64_t *at) {
+    return kit_export_decode((kit_export *)thing, bytes, len, at);
 }
 
-static int32_t message_encoded(kit_handle *it, kit_bytes *bytes) { return kit_message_encode((kit_message *)it, bytes); }
+static int32_t message_encoded(kit_handle *thing, kit_bytes *bytes) { return kit_message_encode((kit_message *)thing, bytes); }
 
-static int32_t message_decoded(kit_handle *it, const uint8_t *bytes, size_t len, uint64_t *at) {
-    return kit_message_decode((kit_message *)it, bytes, len, at);
+static int32_t message_decoded(kit_handle *thing, const uint8_t *bytes, size_t len, uint64_t *at) {
+    return kit_message_decode((kit_message *)thing, bytes, len, at);
 }
 
 static const struct form AN_EXPORT = {export_encoded, export_decoded};
@@ -177,7 +177,7 @@ struct took {
 
 static double least(double one, double other) { return one < other ? one : other; }
 
-static struct took timed(const struct form *form, kit_handle *it) {
+static struct took timed(const struct form *form, kit_handle *thing) {
     static uint8_t copy[ROOM];
     struct took took = {1e12, 1e12};
     for (size_t round = 0; round < ROUNDS; round++) {
@@ -185,7 +185,7 @@ static struct took timed(const struct form *form, kit_handle *it) {
         kit_handle read = {0};
         size_t len = 0;
         double start = now();
-        CHECK(!form->encode(it, &bytes));
+        CHECK(!form->encode(thing, &bytes));
         took.written = least(took.written, now() - start);
         CHECK(!kit_bytes_copy(&bytes, copy, sizeof copy, &len) && len <= sizeof copy);
         start = now();

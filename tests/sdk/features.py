@@ -81,20 +81,20 @@ FEATURES = [
 def sources(pattern):
     """What a wrapper says."""
     made = ("declared.py", "declared.rs", "declared.go", "calls.py")
-    files = [it for it in sorted((TOP / "sdk").glob(pattern)) if not it.stem.endswith("_test") and it.name not in made]
-    text = "\n".join(it.read_text(encoding="utf-8") for it in files)
+    files = [file for file in sorted((TOP / "sdk").glob(pattern)) if not file.stem.endswith("_test") and file.name not in made]
+    text = "\n".join(file.read_text(encoding="utf-8") for file in files)
     return re.sub(r"^\s*//.*$", "", text, flags=re.M)
 
 
 def of_row(words, there):
     """The calls of a row."""
-    return {it for word in words.split() for it in there if it == word or word.endswith("*") and it.startswith(word[:-1])}
+    return {name for word in words.split() for name in there if name == word or word.endswith("*") and name.startswith(word[:-1])}
 
 
 def raised(of):
     """The codes of steps that are refused, as cases.json writes them."""
     if isinstance(of, list):
-        return {code for it in of for code in raised(it)}
+        return {code for step in of for code in raised(step)}
     if not isinstance(of, dict):
         return set()
     told = of.get("refused")
@@ -103,17 +103,17 @@ def raised(of):
 
 def unraised():
     """What does not hold of the codes that shared cases raise."""
-    codes = {it.name for it in exports.codes() if it.number}
+    codes = {code.name for code in exports.codes() if code.number}
     told = raised(json.loads(CASES.read_text(encoding="utf-8"))["cases"])
-    yield from (f"no shared case raises {it}, and UNRAISED does not say why" for it in sorted(codes - told - set(UNRAISED)))
-    yield from (f"a shared case raises {it}, and UNRAISED says that none does" for it in sorted(told & set(UNRAISED)))
-    yield from (f"{it} is no code" for it in sorted((told | set(UNRAISED)) - codes))
+    yield from (f"no shared case raises {code}, and UNRAISED does not say why" for code in sorted(codes - told - set(UNRAISED)))
+    yield from (f"a shared case raises {code}, and UNRAISED says that none does" for code in sorted(told & set(UNRAISED)))
+    yield from (f"{code} is no code" for code in sorted((told | set(UNRAISED)) - codes))
 
 
 def main():
-    there = {it.name for it in exports.exports()}
+    there = {call.name for call in exports.exports()}
     texts = {language: sources(pattern) for language, pattern in WRAPPERS.items()}
-    lacks = {language: {it for it in there if not re.search(MADE[language].format(it), text)} for language, text in texts.items()}
+    lacks = {language: {call for call in there if not re.search(MADE[language].format(call), text)} for language, text in texts.items()}
     table, covered, wrong = [], set(), []
     for what, words, word in FEATURES:
         calls = of_row(words, there)
@@ -123,22 +123,22 @@ def main():
         row = [f"| {what} | {'yes' if words else 'no'} |"]
         told = {"C": bool(words)}
         for language, text in texts.items():
-            missing = {it for it in calls & lacks[language] if (language, it) not in WITHOUT}
+            missing = {call for call in calls & lacks[language] if (language, call) not in WITHOUT}
             is_there = not missing and (not word or re.search(word, text, re.I))
             row.append(f" {'yes' if is_there else 'part' if calls - missing and words else 'no'} |")
             told[language] = is_there
-        wrong += [f"{language} has not: {what}, and WHY_NOT does not say why" for language, it in told.items() if not it and language not in WHY_NOT]
+        wrong += [f"{language} has not: {what}, and WHY_NOT does not say why" for language, has in told.items() if not has and language not in WHY_NOT]
         table.append("".join(row))
-    wrong += [f"FEATURES has no row of {it}" for it in sorted(there - covered)]
+    wrong += [f"FEATURES has no row of {call}" for call in sorted(there - covered)]
     for language, calls in lacks.items():
-        wrong += [f"{language} does not use {it}, and WITHOUT does not say why" for it in sorted(calls) if (language, it) not in WITHOUT]
+        wrong += [f"{language} does not use {call}, and WITHOUT does not say why" for call in sorted(calls) if (language, call) not in WITHOUT]
     wrong += unraised()
-    wrong += [f"{language} uses {it}, and WITHOUT says that it does not" for language, it in WITHOUT if it in there - lacks[language]]
+    wrong += [f"{language} uses {call}, and WITHOUT says that it does not" for language, call in WITHOUT if call in there - lacks[language]]
     head = [f"| What | C | {' | '.join(WRAPPERS)} |", f"|{'---|' * (len(WRAPPERS) + 2)}"]
     made = "\n".join([*head, *table])
     page = PAGE.read_text(encoding="utf-8")
     said = " ".join(page.split())
-    wrong += [f"{PAGE.name}: below the table it is not said: {it}" for it in WHY_NOT.values() if it not in said]
+    wrong += [f"{PAGE.name}: below the table it is not said: {sentence}" for sentence in WHY_NOT.values() if sentence not in said]
     if HEADING in page and made not in page:
         wrong.append(f"{PAGE.name}: the table is not what features.py --table prints")
     if "--table" in sys.argv:

@@ -37,14 +37,14 @@ def parameters(call):
 
 def caller():
     """The lines of the caller, and of each whether it is right."""
-    kinds = [declarations.snake(it.name) for it in declarations.KINDS]
-    lines, right = [f"static {it} the_{it} = KIT_EMPTY;" for it in kinds], []
+    kinds = [declarations.snake(kind.name) for kind in declarations.KINDS]
+    lines, right = [f"static {kind} the_{kind} = KIT_EMPTY;" for kind in kinds], []
     lines = HEAD.splitlines() + lines + ["int32_t calls(void) {", "    int32_t code = 0;"]
     right = [True] * len(lines)
     for call in declarations.CALLS:
         types = parameters(call)
-        handles = [at for at, it in enumerate(types) if it.removesuffix(" *") in kinds]
-        given = [f"&the_{it.removesuffix(' *')}" if at in handles else GIVEN.get(it, "0") for at, it in enumerate(types)]
+        handles = [at for at, type_ in enumerate(types) if type_.removesuffix(" *") in kinds]
+        given = [f"&the_{type_.removesuffix(' *')}" if at in handles else GIVEN.get(type_, "0") for at, type_ in enumerate(types)]
         for at, kind in [(None, None), *((at, kind) for at in handles for kind in kinds)]:
             is_right = at is None or given[at] == f"&the_{kind}"
             words = given if at is None else [*given[:at], f"&the_{kind}", *given[at + 1 :]]
@@ -67,12 +67,12 @@ def main():
             many = "-ferror-limit=0" if "clang" in compiler else "-fmax-errors=0"
             flags = ["-std=c++17"] if is_cpp else ["-std=c11", "-pedantic-errors", "-Werror=incompatible-pointer-types"]
             done = subprocess.run([compiler, *flags, many, "-fsyntax-only", f"-I{folder}", str(file)], capture_output=True, text=True, check=False)
-        refused = {int(it) for it in re.findall(r"caller\.c(?:pp)?:(\d+):\d+: error:", done.stderr)}
+        refused = {int(line) for line in re.findall(r"caller\.c(?:pp)?:(\d+):\d+: error:", done.stderr)}
         passed, barred = sorted(set(wrong) - refused), sorted(refused - set(wrong))
         fault |= bool(passed or barred)
         for what, numbers in (("lets pass", passed), ("refuses what is right", barred)):
-            for it in numbers[:5]:
-                print(f"{compiler} {what}: {lines[it - 1].strip()}")
+            for number in numbers[:5]:
+                print(f"{compiler} {what}: {lines[number - 1].strip()}")
         print(f"{compiler}: {len(refused)} of {len(wrong)} swapped kinds are refused, over {len(declarations.CALLS)} calls")
     return 1 if fault else 0
 

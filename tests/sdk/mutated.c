@@ -23,20 +23,20 @@ enum { INSTRUMENTS = 4, SAMPLES = 6, ROOM = 1 << 16, CODES = 70 };
 /* What has bytes: an export, whose fourth byte is a K, and a message, whose fourth is an M. */
 struct form {
     const char *magic;
-    int32_t (*encode)(kit_handle *it, kit_bytes *bytes);
-    int32_t (*decode)(kit_handle *it, const uint8_t *bytes, size_t len, uint64_t *at);
+    int32_t (*encode)(kit_handle *thing, kit_bytes *bytes);
+    int32_t (*decode)(kit_handle *thing, const uint8_t *bytes, size_t len, uint64_t *at);
 };
 /* An export or a message, by the handle that is in each. */
-static int32_t export_encoded(kit_handle *it, kit_bytes *bytes) { return kit_export_encode((kit_export *)it, bytes); }
+static int32_t export_encoded(kit_handle *thing, kit_bytes *bytes) { return kit_export_encode((kit_export *)thing, bytes); }
 
-static int32_t export_decoded(kit_handle *it, const uint8_t *bytes, size_t len, uint64_t *at) {
-    return kit_export_decode((kit_export *)it, bytes, len, at);
+static int32_t export_decoded(kit_handle *thing, const uint8_t *bytes, size_t len, uint64_t *at) {
+    return kit_export_decode((kit_export *)thing, bytes, len, at);
 }
 
-static int32_t message_encoded(kit_handle *it, kit_bytes *bytes) { return kit_message_encode((kit_message *)it, bytes); }
+static int32_t message_encoded(kit_handle *thing, kit_bytes *bytes) { return kit_message_encode((kit_message *)thing, bytes); }
 
-static int32_t message_decoded(kit_handle *it, const uint8_t *bytes, size_t len, uint64_t *at) {
-    return kit_message_decode((kit_message *)it, bytes, len, at);
+static int32_t message_decoded(kit_handle *thing, const uint8_t *bytes, size_t len, uint64_t *at) {
+    return kit_message_decode((kit_message *)thing, bytes, len, at);
 }
 
 static const struct form AN_EXPORT = {"KTSK", export_encoded, export_decoded};
@@ -126,18 +126,18 @@ static void collected(kit_plan *plan, kit_export *export_, size_t most) {
     kit_writer_free(&writer);
 }
 
-static size_t encoded(const struct form *form, kit_handle *it, uint8_t *bytes) {
+static size_t encoded(const struct form *form, kit_handle *thing, uint8_t *bytes) {
     kit_bytes whole = KIT_EMPTY;
     size_t len = 0;
-    CHECK(!form->encode(it, &whole) && !kit_bytes_copy(&whole, bytes, ROOM, &len) && len <= ROOM);
+    CHECK(!form->encode(thing, &whole) && !kit_bytes_copy(&whole, bytes, ROOM, &len) && len <= ROOM);
     kit_bytes_free(&whole);
     return len;
 }
 
 /* What is read of these bytes has them. */
-static void reread(const struct form *form, kit_handle *it, const uint8_t *bytes, size_t len) {
+static void reread(const struct form *form, kit_handle *thing, const uint8_t *bytes, size_t len) {
     static uint8_t again[ROOM];
-    CHECK(encoded(form, it, again) == len && !memcmp(bytes, again, len));
+    CHECK(encoded(form, thing, again) == len && !memcmp(bytes, again, len));
 }
 
 /* Gateway 1 tells gateway 2 of an export. */
@@ -202,26 +202,26 @@ static struct sample {
     uint8_t bytes[ROOM];
 } samples[SAMPLES];
 
-static void sampled(kit_plan *plan, struct sample *it, size_t number) {
+static void sampled(kit_plan *plan, struct sample *sample, size_t number) {
     static const size_t most[SAMPLES] = {0, 6, 120, 6, 120, 6};
     kit_export export_ = KIT_EMPTY;
     kit_message message = KIT_EMPTY, answer = KIT_EMPTY;
     collected(plan, &export_, most[number]);
     told(&export_, &message);
     answered(&message, &answer);
-    it->form = number < 3 ? &AN_EXPORT : &A_MESSAGE;
-    it->len = encoded(it->form, number < 3 ? &export_.handle : number < 5 ? &message.handle : &answer.handle, it->bytes);
+    sample->form = number < 3 ? &AN_EXPORT : &A_MESSAGE;
+    sample->len = encoded(sample->form, number < 3 ? &export_.handle : number < 5 ? &message.handle : &answer.handle, sample->bytes);
     kit_export_free(&export_), kit_message_free(&message), kit_message_free(&answer);
 }
 
 static void prefixes(kit_plan *plan) {
     for (size_t i = 0; i < SAMPLES; i++) {
-        struct sample *it = &samples[i];
+        struct sample *sample = &samples[i];
         kit_handle read = {0};
-        do sampled(plan, it, i);
-        while (0 < i && i < 5 && it->len < 100 * (i < 3 ? i : i - 2));
-        for (size_t short_of = 0; short_of < it->len; short_of++) {
-            CHECK(it->form->decode(&read, it->bytes, short_of, &place) == KIT_TRUNCATED && place == short_of && !read.full);
+        do sampled(plan, sample, i);
+        while (0 < i && i < 5 && sample->len < 100 * (i < 3 ? i : i - 2));
+        for (size_t short_of = 0; short_of < sample->len; short_of++) {
+            CHECK(sample->form->decode(&read, sample->bytes, short_of, &place) == KIT_TRUNCATED && place == short_of && !read.full);
         }
     }
 }

@@ -23,7 +23,7 @@ FRAMES = {
 def first(name, text):
     """The body of the first program of a text, line by line, and what the program prints."""
     fence, begins, ends = FRAMES[name]
-    program, printed = (re.search(rf"^```{it}\n(.*?)^```$", text, re.M | re.S)[1] for it in (fence, "text"))
+    program, printed = (re.search(rf"^```{word}\n(.*?)^```$", text, re.M | re.S)[1] for word in (fence, "text"))
     return re.fullmatch(rf"{begins}((?:.*\n)*){ends}", program)[1].splitlines(), printed
 
 
@@ -35,10 +35,11 @@ def shown(text, fence):
 
 def readme():
     """What README shows otherwise than the pages, whose programs the runners of Python and Go run."""
-    page, python, go = ((it).read_text(encoding="utf-8") for it in (TOP / "README.md", DOCS / "PYTHON.md", DOCS / "GO.md"))
-    body = "".join(f"{it.removeprefix(chr(9))}\n" for it in first("GO", go)[0])
+    page, python, go = (path.read_text(encoding="utf-8") for path in (TOP / "README.md", DOCS / "PYTHON.md", DOCS / "GO.md"))
+    body = "".join(f"{line.removeprefix(chr(9))}\n" for line in first("GO", go)[0])
     wanted = {"python": shown(python, "python"), "go": body, "text": shown(python, "text")}
-    return [f"README.md: its first block of {it} is not that of the page" for it, text in wanted.items() if not text or shown(page, it) != text]
+    wrong = [language for language, text in wanted.items() if not text or shown(page, language) != text]
+    return [f"README.md: its first block of {language} is not that of the page" for language in wrong]
 
 
 def main():
@@ -49,13 +50,13 @@ def main():
             if not text:
                 continue
             lines, printed[what, name] = first(name, text)
-            widths = [len(it.expandtabs(4)) for it in lines]
+            widths = [len(line.expandtabs(4)) for line in lines]
             if len(lines) > MOST or not 0 < min(widths) <= max(widths) <= MOST_WIDE:
                 faults.append(f"docs/use/{name}.md: the {what}'s body has {len(lines)} lines, of widths {widths}")
             print(f"docs/use/{name}.md: {len(lines)} lines of body in the {what}")
     if len({prints for (what, _), prints in printed.items() if what == "first program"}) > 1:
         faults.append(f"the first programs print several things: {printed}")
-    print("".join(f"{it}\n" for it in faults), end="")
+    print("".join(f"{fault}\n" for fault in faults), end="")
     return 1 if faults else 0
 
 

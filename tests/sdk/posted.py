@@ -25,7 +25,7 @@ def places():
         nobody.bind(("127.0.0.1", 0))
         threading.Thread(target=server.serve_forever, daemon=True).start()
         try:
-            yield (*(f"http://127.0.0.1:{it}" for it in (nobody.getsockname()[1], server.server_port)), posted)
+            yield (*(f"http://127.0.0.1:{port}" for port in (nobody.getsockname()[1], server.server_port)), posted)
         finally:
             server.shutdown()
 
@@ -35,7 +35,7 @@ def first_of(run):
     with places() as (nobody, somebody, posted):
         if run(nobody, somebody):
             return "it fails where one of two takes its export"
-        if [path for path, _ in posted] != ["/v1/metrics"] or not all(it in posted[0][1] for it in (b"bank", b"transfers")):
+        if [path for path, _ in posted] != ["/v1/metrics"] or not all(word in posted[0][1] for word in (b"bank", b"transfers")):
             return f"it posts {posted}"
         if not run(nobody) or len(posted) != 1:
             return "it succeeds where nobody takes its export"

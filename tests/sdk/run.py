@@ -85,7 +85,7 @@ class Run:
     def run(self, what, *command, prints=None, **given):
         """Runs a command: it must succeed, and print what is wanted where something is."""
         try:
-            done = subprocess.run([str(it) for it in command], stdin=subprocess.DEVNULL, capture_output=True, timeout=SECONDS, **given)
+            done = subprocess.run([str(word) for word in command], stdin=subprocess.DEVNULL, capture_output=True, timeout=SECONDS, **given)
         except (OSError, subprocess.TimeoutExpired) as fault:
             self.say(what, repr(fault))
             return False
@@ -99,7 +99,7 @@ class Run:
 
     def built(self, what, compiler, source, flags, program):
         """Compiles one file over the kit."""
-        libraries = [it for it in self.linked if not it.startswith("-I")]
+        libraries = [path for path in self.linked if not path.startswith("-I")]
         return self.run(f"{what}: compiled", compiler, *flags, self.linked[0], source, *libraries, "-o", program)
 
     def compiled(self, what, compiler, source, flags, prints=None, words=()):
@@ -123,14 +123,14 @@ class Run:
         wanted, rows = set(), set()
         for name, given in re.findall(r"KIT_CHECKED int32_t kit_(\w+)\(([^)]*)\);", header):
             handles = re.findall(r"(KIT_READS )?kit_(?!(?:taken|row|count) )\w+ \*", given)
-            wanted.add((name, *(bool(it) for it in handles)))
+            wanted.add((name, *(bool(handle) for handle in handles)))
         for name, hands in re.findall(r"ROW\((\w+), (\{[^()]*\})\)", (HERE / "calls.h").read_text(encoding="utf-8")):
-            rows.add((name, *("READ" in it for it in re.findall(r"\{(\w+),", hands))))
-        fault = f"not {sorted(it[0] for it in wanted ^ rows)}" if wanted != rows else None
+            rows.add((name, *("READ" in found for found in re.findall(r"\{(\w+),", hands))))
+        fault = f"not {sorted(row[0] for row in wanted ^ rows)}" if wanted != rows else None
         self.say("C: calls.h has each call, and what it reads", fault)
         answers = re.search(r"What calls answer.*?};", header, re.S)[0]
         codes = set(re.findall(r"(KIT_\w+) = [1-9]", answers)) - {"KIT_TOO_LONG", "KIT_UNSOUND"}
-        raised = {it for name in REFUSALS for it in re.findall(r"== (KIT_\w+)", (HERE / name).read_text(encoding="utf-8"))}
+        raised = {found for name in REFUSALS for found in re.findall(r"== (KIT_\w+)", (HERE / name).read_text(encoding="utf-8"))}
         self.say("C: each code is raised", f"not {sorted(codes - raised)}" if codes - raised else None)
 
     def lacking(self):
@@ -170,7 +170,7 @@ class Run:
         compiler = self.compiler()
         if not there.has("C", "valgrind", compiler):
             return
-        program, libraries = self.room / "program", [it for it in self.linked if not it.startswith("-I")]
+        program, libraries = self.room / "program", [path for path in self.linked if not path.startswith("-I")]
         for what, source, flags, tool in (
             ("every refusal", "refusals.c", WRAPPED + FREED, ["--leak-check=full", "--track-origins=no"]),
             ("other formats", "formats.c", WRAPPED, ["--leak-check=full", "--track-origins=no"]),
@@ -183,7 +183,7 @@ class Run:
 
     def stopped(self, compiler):
         """UBSan stops at a null pointer."""
-        program, libraries = self.room / "program", [it for it in self.linked if not it.startswith("-I")]
+        program, libraries = self.room / "program", [path for path in self.linked if not path.startswith("-I")]
         if self.run(f"C, {compiler}: a null pointer: compiled", compiler, *C, *ASAN, self.linked[0], HERE / "null.c", *libraries, "-o", program):
             done = subprocess.run([program], capture_output=True, text=True, check=False)
             is_told = done.returncode and "null pointer passed as argument 1" in done.stderr
@@ -332,17 +332,17 @@ class Run:
         page = (TOP / "docs" / "use" / "SDK.md").read_text(encoding="utf-8")
         lines = re.search(r"^```sh\nK=.*?\n(.*?)^```$", page, re.M | re.S)[1].splitlines()
         wants = re.compile(r"\b(cc|c\+\+|pkg-config|cargo|go|python3)(?= )")
-        wanted = [it for it in lines if there.has("Docs", *wants.findall(it))]
+        wanted = [line for line in lines if there.has("Docs", *wants.findall(line))]
         given = {**os.environ, "K": str(folder), "PYTHONDONTWRITEBYTECODE": "1"}
         given |= {"CARGO_NET_OFFLINE": "true", "GOCACHE": f"{self.room}/go", "GOPROXY": "off"}
         for turn in ("once", "twice"):
-            many = len([it for it in wanted if "first" in it])
+            many = len([line for line in wanted if "first" in line])
             self.run(f"Docs: the first scripts, {turn}", "sh", "-ec", "\n".join(wanted), prints=WANTED * many, cwd=TOP, env=given)
 
     @staticmethod
     def compiler():
         """A compiler of C that is not left out."""
-        return next((it for it in ("gcc", "clang") if it not in there.left_out()), "gcc")
+        return next((name for name in ("gcc", "clang") if name not in there.left_out()), "gcc")
 
 
 def laid_out(kit):

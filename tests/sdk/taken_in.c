@@ -117,9 +117,9 @@ static void start(kit_writer *writer, size_t plan) {
     CHECK(!kit_writer_start(writer, &plans[plan], TEXT("shop"), 0, 1, 100));
 }
 
-static int32_t measure(kit_writer *writer, struct recording it, uint64_t *place) {
-    if (it.lost) return kit_writer_measure_held(writer, NOT_HELD, it.value, place);
-    return kit_writer_measure(writer, it.instrument, &sets[it.set], it.value, place);
+static int32_t measure(kit_writer *writer, struct recording recording, uint64_t *place) {
+    if (recording.lost) return kit_writer_measure_held(writer, NOT_HELD, recording.value, place);
+    return kit_writer_measure(writer, recording.instrument, &sets[recording.set], recording.value, place);
 }
 
 /* The table of a stream at a gateway, which the caller frees. */
@@ -199,11 +199,11 @@ static size_t len_of(kit_recorder *recorder) {
 }
 
 /* The number of a pair, which it keeps. */
-static size_t number_of(struct split *all, struct recording it) {
-    size_t number = 77, *known = &all->numbers[it.instrument][it.set];
-    bool *has = &all->has_number[it.instrument][it.set];
-    int32_t code = all->shared ? kit_seat_hold(&all->seat, it.instrument, &sets[it.set], &number)
-                               : kit_writer_hold(&all->writer, it.instrument, &sets[it.set], &number);
+static size_t number_of(struct split *all, struct recording recording) {
+    size_t number = 77, *known = &all->numbers[recording.instrument][recording.set];
+    bool *has = &all->has_number[recording.instrument][recording.set];
+    int32_t code = all->shared ? kit_seat_hold(&all->seat, recording.instrument, &sets[recording.set], &number)
+                               : kit_writer_hold(&all->writer, recording.instrument, &sets[recording.set], &number);
     CHECK(!code);
     if (!*has) *has = true, *known = all->held++;
     CHECK(number == *known);
@@ -231,48 +231,48 @@ static void take_in(struct split *all, size_t which, size_t most) {
 }
 
 /* Both writers record, or refuse for one cause. */
-static void measure_both(struct split *all, struct recording it, bool by_number) {
+static void measure_both(struct split *all, struct recording recording, bool by_number) {
     uint64_t place = 77, other = 77;
-    by_number = by_number && it.instrument < INSTRUMENTS;
-    size_t number = it.lost ? NOT_HELD : by_number ? number_of(all, it) : 77;
+    by_number = by_number && recording.instrument < INSTRUMENTS;
+    size_t number = recording.lost ? NOT_HELD : by_number ? number_of(all, recording) : 77;
     int32_t code;
-    if (it.lost || by_number) {
-        code = all->shared ? kit_seat_measure_held(&all->seat, number, it.value, &place)
-                           : kit_writer_measure_held(&all->writer, number, it.value, &place);
+    if (recording.lost || by_number) {
+        code = all->shared ? kit_seat_measure_held(&all->seat, number, recording.value, &place)
+                           : kit_writer_measure_held(&all->writer, number, recording.value, &place);
     } else {
-        code = all->shared ? kit_seat_measure(&all->seat, it.instrument, &sets[it.set], it.value, &place)
-                           : kit_writer_measure(&all->writer, it.instrument, &sets[it.set], it.value, &place);
+        code = all->shared ? kit_seat_measure(&all->seat, recording.instrument, &sets[recording.set], recording.value, &place)
+                           : kit_writer_measure(&all->writer, recording.instrument, &sets[recording.set], recording.value, &place);
     }
-    CHECK(code == measure(&all->one_by_one, it, &other) && place == other);
+    CHECK(code == measure(&all->one_by_one, recording, &other) && place == other);
     refused += code != KIT_OK;
 }
 
 /* A log notes a recording, whatever a writer will say of it. Where it is full it is taken in first, and then it has room. */
-static void note(struct split *all, size_t which, struct recording it, bool by_number) {
+static void note(struct split *all, size_t which, struct recording recording, bool by_number) {
     kit_recorder *recorder = &all->recorders[which];
-    by_number = by_number && it.instrument < INSTRUMENTS;
-    size_t number = it.lost ? NOT_HELD : by_number ? number_of(all, it) : 77;
+    by_number = by_number && recording.instrument < INSTRUMENTS;
+    size_t number = recording.lost ? NOT_HELD : by_number ? number_of(all, recording) : 77;
     for (;;) {
-        int32_t code = it.lost || by_number ? kit_recorder_measure_held(recorder, number, it.value)
-                                            : kit_recorder_measure(recorder, it.instrument, &sets[it.set], it.value);
+        int32_t code = recording.lost || by_number ? kit_recorder_measure_held(recorder, number, recording.value)
+                                            : kit_recorder_measure(recorder, recording.instrument, &sets[recording.set], recording.value);
         if (code == KIT_OK) break;
         CHECK(code == KIT_RECORDER_FULL && all->noted[which].len == ROOM);
         take_in(all, which, 1 + random_number(ROOM)), full++;
     }
-    all->noted[which].items[all->noted[which].len++] = it;
+    all->noted[which].items[all->noted[which].len++] = recording;
 }
 
 static bool rises(size_t instrument) { return instrument == REQUESTS || instrument == SIZE; }
 
 /* A recording: in some lists of values that leave 64 bits together, now and then of one below 0, and seldom of no instrument or number. */
 static struct recording any_recording(bool wide) {
-    struct recording it = {.instrument = random_number(INSTRUMENTS), .set = random_number(SETS)};
-    it.value = (int64_t)random_number(8);
-    if (wide && !random_number(4)) it.value = INT64_MAX - it.value;
-    if (rises(it.instrument) ? !random_number(16) : random_number(2)) it.value = -it.value;
-    if (!random_number(64)) it.instrument = INSTRUMENTS;
-    it.lost = !random_number(64);
-    return it;
+    struct recording recording = {.instrument = random_number(INSTRUMENTS), .set = random_number(SETS)};
+    recording.value = (int64_t)random_number(8);
+    if (wide && !random_number(4)) recording.value = INT64_MAX - recording.value;
+    if (rises(recording.instrument) ? !random_number(16) : random_number(2)) recording.value = -recording.value;
+    if (!random_number(64)) recording.instrument = INSTRUMENTS;
+    recording.lost = !random_number(64);
+    return recording;
 }
 
 /* Both writers begin anew: what logs have is of the incarnation that takes it in. */
@@ -378,8 +378,8 @@ static size_t numbers[INSTRUMENTS][SETS];
 
 /* What a thread records at a time, by numbers: a set's handle is in one call at a time. */
 static struct recording recording_of(size_t thread, size_t time) {
-    struct recording it = {.instrument = time % 3 ? REQUESTS : SIZE, .set = (thread + time) % 7, .value = (int64_t)(time % 9)};
-    return it;
+    struct recording recording = {.instrument = time % 3 ? REQUESTS : SIZE, .set = (thread + time) % 7, .value = (int64_t)(time % 9)};
+    return recording;
 }
 
 static void gather(kit_recorder *recorder) {
@@ -393,8 +393,8 @@ static void *work(void *at) {
     kit_recorder *recorder = at;
     size_t thread = (size_t)(recorder - own);
     for (size_t time = 0; time < TIMES; time++) {
-        struct recording it = recording_of(thread, time);
-        CHECK(!kit_recorder_measure_held(recorder, numbers[it.instrument][it.set], it.value));
+        struct recording recording = recording_of(thread, time);
+        CHECK(!kit_recorder_measure_held(recorder, numbers[recording.instrument][recording.set], recording.value));
         if (time % OFTEN == OFTEN - 1) gather(recorder);
     }
     gather(recorder);

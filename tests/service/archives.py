@@ -46,7 +46,7 @@ class Worker(threading.Thread):
     def __init__(self, number, gateway, ends):
         super().__init__(daemon=True)
         self.chance, self.gateway, self.ends, self.plan = random.Random(number), gateway, ends, Plan(PLAN)
-        self.sets = [Attributes({"route": it}) for it in ROUTES]
+        self.sets = [Attributes({"route": route}) for route in ROUTES]
         self.taken, self.owed, self.lives, self.points, self.late, self.last, self.fault = {}, {}, 0, 0, 0, None, None
 
     def run(self):
@@ -123,8 +123,8 @@ class Scraped:
         for gateway in self.gateways:
             gateway.start()
         try:
-            until(lambda: all(it.is_ready() for it in self.gateways), lambda: f"they are not ready\n{self.gateways[0].tail()}")
-            targets = [f"{ADDRESS}:{it.port}" for it in self.gateways]
+            until(lambda: all(gateway.is_ready() for gateway in self.gateways), lambda: f"they are not ready\n{self.gateways[0].tail()}")
+            targets = [f"{ADDRESS}:{gateway.port}" for gateway in self.gateways]
             rule = re.search(r"^```yaml\n(metric_relabel_configs:.*?)^```$", PAGE.read_text(encoding="utf-8"), re.M | re.S)[1]
             with running(self.room / "archives", targets, port=free_port(), every=SCRAPES, more=rule) as prometheus:
                 return self.ran(prometheus)
@@ -145,7 +145,7 @@ class Scraped:
             worker.join()
             if worker.fault:
                 raise worker.fault
-        lives, wanted = sum(it.lives for it in workers), totals_of(workers)
+        lives, wanted = sum(worker.lives for worker in workers), totals_of(workers)
         # (each life, and what counted the zeros, has a tombstone, and there are as many totals as routes and instruments)
         points = lives + 1 + len(PLAN) * len(ROUTES)
         for gateway in self.gateways:
@@ -154,7 +154,7 @@ class Scraped:
                 raise Fault(f"gateway {gateway.number} does not show what was counted\n{gateway.tail()}")
         self.late(workers[0].last, wanted)
         self.hold(prometheus, wanted)
-        late, came = (sum(getattr(it, what) for it in workers) for what in ("late", "points"))
+        late, came = (sum(getattr(worker, what) for worker in workers) for what in ("late", "points"))
         return f"{lives} lives with {came} points were adopted, {late} of them while they lived; {points} points are left"
 
     def zeros(self, worker):

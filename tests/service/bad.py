@@ -90,13 +90,13 @@ class Trial:
         self.gateway.kill()
 
     def post(self, path, body, token, **heads):
-        heads = {it.replace("_", "-"): value for it, value in heads.items()}
+        heads = {name.replace("_", "-"): value for name, value in heads.items()}
         heads = {"Content-Type": TYPES.get(path, "text/plain"), "Authorization": f"Bearer {token}", **heads}
         status, _, told = asked(ADDRESS, "POST", path, body, heads, port=PORT)
         return status, told
 
     def on_disk(self):
-        return sum(it.stat().st_size for it in self.gateway.state.iterdir())
+        return sum(path.stat().st_size for path in self.gateway.state.iterdir())
 
     def resident(self):
         for line in open(f"/proc/{self.gateway.process.pid}/status"):
@@ -114,8 +114,8 @@ class Trial:
 
 def bodies(program, room, count):
     """Random and changed bodies, some as gzip, to each path."""
-    with Trial(program, room) as it:
-        good, answers, faults = seeds_of(it.identity), {path: {} for path in TYPES}, []
+    with Trial(program, room) as trial:
+        good, answers, faults = seeds_of(trial.identity), {path: {} for path in TYPES}, []
 
         def send(number):
             chance = random.Random(f"bad {number}")
@@ -125,7 +125,7 @@ def bodies(program, room, count):
                     token = PEERS if path == "/v1/messages" else NOBODY
                     zips = chance.random() < 0.2
                     heads = {"Content_Encoding": "gzip"} if zips else {}
-                    status, told = it.post(path, gzip.compress(body) if zips else body, token, **heads)
+                    status, told = trial.post(path, gzip.compress(body) if zips else body, token, **heads)
                     answers[path][status] = answers[path].get(status, 0) + 1
                     if status not in MAY[path]:
                         faults.append(f"{path}: {status} {told[:200]} to {body[:200].hex()}")
@@ -133,10 +133,10 @@ def bodies(program, room, count):
         def warm():
             for path in TYPES:
                 for _ in range(50):
-                    it.post(path, b"bad", NOBODY)
+                    trial.post(path, b"bad", NOBODY)
 
         warm()
-        before = it.resident()
+        before = trial.resident()
         hands = [threading.Thread(target=send, args=(number,)) for number in range(THREADS)]
         for hand in hands:
             hand.start()
@@ -144,8 +144,8 @@ def bodies(program, room, count):
             hand.join()
         if faults:
             raise Fault(f"{len(faults)} have another status, as\n{faults[0]}")
-        it.unchanged()
-        grown = it.resident() - before
+        trial.unchanged()
+        grown = trial.resident() - before
         if grown > MOST_GROWTH:
             raise Fault(f"it grew by {grown} bytes")
         return {**answers, "grown by MB": round(grown / 1e6, 1)}
@@ -153,7 +153,7 @@ def bodies(program, room, count):
 
 def queries(program, room, count):
     """Random queries to what is read."""
-    with Trial(program, room) as it:
+    with Trial(program, room) as trial:
         answers = {}
         for number in range(count):
             chance = random.Random(f"query {number}")
@@ -166,55 +166,55 @@ def queries(program, room, count):
             answers[status] = answers.get(status, 0) + 1
             if status not in (200, 400, 401, 404, 405):
                 raise Fault(f"{path}?{query}: {status} {told[:200]}")
-        it.unchanged()
+        trial.unchanged()
         return dict(sorted(answers.items()))
 
 
 def tokens(program, room, count):
-    with Trial(program, room) as it:
-        good = seeds_of(it.identity)
+    with Trial(program, room) as trial:
+        good = seeds_of(trial.identity)
         for path, token, status in (
             ("/v1/exports", "", 401), ("/v1/exports", WRITES[:-1], 401), ("/v1/exports", WRITES + "x", 401), ("/v1/exports", NOBODY, 403),
             ("/v1/exports", PEERS, 403), ("/v1/metrics", "x", 401), ("/v1/metrics", NOBODY, 403), ("/v1/metrics", PEERS, 403),
             ("/v1/messages", "", 401), ("/v1/messages", WRITES, 403), ("/v1/messages", PEERS, 403),
             ("/v1/gone?peer=127.0.0.1:1", "", 401), ("/v1/gone?peer=127.0.0.1:1", WRITES, 403), ("/v1/gone?peer=127.0.0.1:1", PEERS, 403),
         ):
-            found, told = it.post(path, good.get(path, b""), token)
+            found, told = trial.post(path, good.get(path, b""), token)
             if found != status:
                 raise Fault(f"{path} with {token!r}: {found}, and not {status}: {told}")
         chance = random.Random("tokens")
         for _ in range(count):
             token = "".join(chance.choice(" abcdef0123456789-\t~") for _ in range(chance.randrange(40)))
-            if (found := it.post("/v1/exports", good["/v1/exports"], token)[0]) not in (400, 401):
+            if (found := trial.post("/v1/exports", good["/v1/exports"], token)[0]) not in (400, 401):
                 raise Fault(f"{token!r}: {found}")
-        it.unchanged()
+        trial.unchanged()
 
 
 def changed_tokens(program, room, count):
     """Tokens are read again on SIGHUP, and once the file changes; a bad file is told, and changes nothing."""
-    with Trial(program, room) as it:
+    with Trial(program, room) as trial:
         later = "later-0123456789abcdef"
 
         def put(words):
-            beside = it.tokens.with_name("tokens.new")
+            beside = trial.tokens.with_name("tokens.new")
             beside.write_text(words)
-            beside.replace(it.tokens)
+            beside.replace(trial.tokens)
 
         def are(known, unknown):
             # (what was taken before: it changes nothing)
-            return [it.post("/v1/exports", it.good, token)[0] for token in (known, unknown)] == [200, 401]
+            return [trial.post("/v1/exports", trial.good, token)[0] for token in (known, unknown)] == [200, 401]
 
         put(TOKENS.replace(WRITES, later))
-        it.gateway.signal(signal.SIGHUP)
+        trial.gateway.signal(signal.SIGHUP)
         until(lambda: are(later, WRITES), "a signal has no token read again")
         put("short write shop\n")
-        it.gateway.signal(signal.SIGHUP)
-        until(lambda: "the tokens were not read again" in it.gateway.tail(), "a bad file is not told")
+        trial.gateway.signal(signal.SIGHUP)
+        until(lambda: "the tokens were not read again" in trial.gateway.tail(), "a bad file is not told")
         if not are(later, WRITES):
             raise Fault("a bad file changes tokens")
         put(TOKENS)
         until(lambda: are(WRITES, later), "a change is not seen")
-        if page_of(it.gateway) != it.page:
+        if page_of(trial.gateway) != trial.page:
             raise Fault("something else was taken")
 
 
@@ -227,7 +227,7 @@ def opened(head=b""):
 def head_of(path, length, token):
     lines = [f"POST {path} HTTP/1.1", "Host: gateway", f"Authorization: Bearer {token}", f"Content-Type: {TYPES[path]}"]
     lines.append(f"Content-Length: {length}")
-    return "".join(f"{it}\r\n" for it in [*lines, ""]).encode()
+    return "".join(f"{line}\r\n" for line in [*lines, ""]).encode()
 
 
 def rest_of(made):
@@ -244,9 +244,9 @@ def rest_of(made):
 
 def cut(program, room, count):
     """Bodies that end before they are whole, in either way."""
-    with Trial(program, room) as it:
+    with Trial(program, room) as trial:
         chance = random.Random("cut")
-        for path, good in seeds_of(it.identity).items():
+        for path, good in seeds_of(trial.identity).items():
             token = PEERS if path == "/v1/messages" else WRITES
             for _ in range(max(count // 10, 10)):
                 made = opened(head_of(path, len(good), token) + good[: chance.randrange(len(good))])
@@ -257,14 +257,14 @@ def cut(program, room, count):
                         raise Fault(f"{path}: a cut body is answered {status}")
                 else:
                     made.close()
-        until(lambda: it.gateway.text("/healthz"), "it is not alive")
-        it.unchanged()
+        until(lambda: trial.gateway.text("/healthz"), "it is not alive")
+        trial.unchanged()
 
 
 def slow(program, room, count):
     """Senders that send a byte now and then are ended in time, and the others are answered meanwhile."""
-    with Trial(program, room, read="2s") as it:
-        good = seeds_of(it.identity)["/v1/exports"]
+    with Trial(program, room, read="2s") as trial:
+        good = seeds_of(trial.identity)["/v1/exports"]
         senders = [opened(head_of("/v1/exports", len(good), WRITES) + good[:10]) for _ in range(20)]
         senders += [opened(b"GET /metrics HTTP/1.1\r\nHost:") for _ in range(20)]
         began, answered = time.monotonic(), 0
@@ -274,26 +274,26 @@ def slow(program, room, count):
                     made.sendall(good[10:11])
                 except OSError:
                     pass
-            answered += it.gateway.text("/healthz") is not None
+            answered += trial.gateway.text("/healthz") is not None
             time.sleep(0.1)
         statuses = [rest_of(made).split(b" ")[1:2] for made in senders]
         took = time.monotonic() - began
         if not answered or took > ANSWER:
             raise Fault(f"{answered} were answered beside slow senders, which were there for {took:.1f} s")
-        if not all(it in ([b"408"], [b"400"], []) for it in statuses) or [b"408"] not in statuses:
+        if not all(status in ([b"408"], [b"400"], []) for status in statuses) or [b"408"] not in statuses:
             raise Fault(f"slow senders are answered {statuses}")
-        it.unchanged()
+        trial.unchanged()
         return {"seconds until they were ended": round(took, 1)}
 
 
 def connections(program, room, count):
     """More connections than may be open are answered 503, and once some end there is room again."""
-    with Trial(program, room) as it:
+    with Trial(program, room) as trial:
         held = [opened() for _ in range(64)]
 
         def is_full():
             """Where one more is answered, a connection of before was open still as these came, and one of these had no room."""
-            if it.gateway.ask("/healthz")[0] == 503:
+            if trial.gateway.ask("/healthz")[0] == 503:
                 return True
             held.append(opened())
             return False
@@ -301,8 +301,8 @@ def connections(program, room, count):
         until(is_full, "it takes as many connections as come", patience=ANSWER, pause=0.02)
         for made in held:
             made.close()
-        until(lambda: it.gateway.ask("/healthz")[0] == 200, "there is no room again")
-        it.unchanged()
+        until(lambda: trial.gateway.ask("/healthz")[0] == 200, "there is no room again")
+        trial.unchanged()
 
 
 def trials(program, room, count):

@@ -17,9 +17,12 @@ ARCHIVES = ("--archive", "shop,till", "--archive-after", "1s", "--archive-every"
 def gateways_of(program, network, disks, room, seed):
     made = {}
     for number, address in network.addresses.items():
-        others = [it for it in network.addresses if it != number]
+        others = [other for other in network.addresses if other != number]
         links = getattr(network, "links", None)
-        peers = [f"http://127.0.0.1:{links[number, it].port}" if links else f"http://{network.addresses[it]}:{PORT}" for it in others]
+        if links:
+            peers = [f"http://127.0.0.1:{links[number, other].port}" for other in others]
+        else:
+            peers = [f"http://{network.addresses[other]}:{PORT}" for other in others]
         log = room / f"gateway{number}.{seed}.log"
         made[number] = Gateway(program, number, address, peers, disks.folders[number], log, network.inside(number), FLAGS)
     return made
@@ -34,7 +37,7 @@ def agreed(gateways):
         if not page:
             return None
         told.append((tables, page))
-    return told[0] if all(it == told[0] for it in told) else None
+    return told[0] if all(one == told[0] for one in told) else None
 
 
 class Seed:
@@ -53,7 +56,7 @@ class Seed:
         try:
             return self.ran(seconds)
         except Fault as fault:
-            logs = "\n".join(f"--- gateway {it.number}\n{it.tail()}" for it in self.gateways.values())
+            logs = "\n".join(f"--- gateway {gateway.number}\n{gateway.tail()}" for gateway in self.gateways.values())
             raise Fault(f"seed {self.seed}: {fault}\ndone: {self.nemesis.done}\n{logs}") from fault
         finally:
             for worker in self.workers:
@@ -66,14 +69,14 @@ class Seed:
     def ran(self, seconds):
         for gateway in self.gateways.values():
             gateway.start()
-        until(lambda: all(it.is_ready() for it in self.gateways.values()), "the gateways are not ready")
+        until(lambda: all(gateway.is_ready() for gateway in self.gateways.values()), "the gateways are not ready")
         for worker in self.workers:
             worker.thread.start()
         self.nemesis.run(seconds / 2)
         self.adopt_all()
         self.nemesis.run(seconds / 2)
         healed = time.monotonic()
-        until(lambda: all(it.is_ready() for it in self.gateways.values()), "the gateways are not ready once all is healed")
+        until(lambda: all(gateway.is_ready() for gateway in self.gateways.values()), "the gateways are not ready once all is healed")
         for worker in self.workers:
             worker.finish(PATIENCE)
         tables, page = self.converged()
@@ -84,7 +87,7 @@ class Seed:
 
     def adopt_all(self):
         """While all rest, the first gateway adopts each life that left something. Those of workers who live are told so once they go on."""
-        until(lambda: all(it.is_ready() for it in self.gateways.values()), "the gateways are not ready while all rest")
+        until(lambda: all(gateway.is_ready() for gateway in self.gateways.values()), "the gateways are not ready while all rest")
         for worker in self.workers:
             worker.rest()
         lives = len({name for name, *_ in totals_in(self.converged()[0])})
@@ -113,7 +116,7 @@ class Seed:
 
     def missing(self, found):
         """The lives of which less is held than was told."""
-        return [it.name() for it in self.lives() if it.told >= 0 and self.place_of(it, found) < it.told]
+        return [life.name() for life in self.lives() if life.told >= 0 and self.place_of(life, found) < life.told]
 
     def lives(self):
         return [life for worker in self.workers for life in worker.lives]
@@ -123,13 +126,13 @@ class Seed:
         held = {at: found[life.name(), *at] for at in ((i, route) for i in range(3) for route in ROUTES) if (life.name(), *at) in found}
         if not held:
             return -1
-        places = [number for number, it in enumerate(life.pushed) if it.totals == held]
+        places = [number for number, push in enumerate(life.pushed) if push.totals == held]
         return max(places) if places else -2
 
     def compare(self, tables):
         """Of each life all gateways hold one collection, which is none before the newest that was told."""
         found = totals_in(tables)
-        strange = {name for name, *_ in found} - {it.name() for it in self.lives()}
+        strange = {name for name, *_ in found} - {life.name() for life in self.lives()}
         if strange:
             raise Fault(f"there are totals of {sorted(strange)}, who never lived")
         for life in self.lives():
@@ -165,15 +168,15 @@ class Seed:
         return (self.gateways[1].text("/metrics") or "").count("\nadopted_nanoseconds{")
 
     def differing(self):
-        told = {it.number: (tables_of(it), it.json("/v1/peers")) for it in self.gateways.values()}
+        told = {gateway.number: (tables_of(gateway), gateway.json("/v1/peers")) for gateway in self.gateways.values()}
         found = {number: tables and self.missing(totals_in(tables)) for number, (tables, _) in told.items()}
         return f"missing lives: {found}; peers: {[peers for _, peers in told.values()]}"
 
     def told(self, took):
-        taken, not_taken, late = (sum(it.counts[what] for it in self.workers) for what in ("taken", "not taken", "late"))
+        taken, not_taken, late = (sum(worker.counts[what] for worker in self.workers) for what in ("taken", "not taken", "late"))
         return {
             "done": dict(sorted(self.nemesis.done.items())), "exports told": taken, "not taken": not_taken, "late": late,
-            "lives": len(self.lives()), "adopted": self.adopted(), "starts": sum(it.starts for it in self.gateways.values()),
+            "lives": len(self.lives()), "adopted": self.adopted(), "starts": sum(gateway.starts for gateway in self.gateways.values()),
             "proxy": dict(self.proxy.counts), "seconds to agree": round(took, 2), "resets seen": self.resets(),
         }
 
@@ -199,6 +202,6 @@ def totals_in(tables):
 
 def parted(row):
     braced, rest = row.split("}", 1)
-    pairs = (it.split("=", 1) for it in braced.lstrip("{").split(","))
+    pairs = (pair.split("=", 1) for pair in braced.lstrip("{").split(","))
     points, conflicts, total = rest.split(None, 2)
     return {name: value.strip('"') for name, value in pairs}, points, conflicts, total

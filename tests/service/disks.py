@@ -21,7 +21,7 @@ def pushed(gateway, instance, value, status=200):
 
 def total(gateway):
     told = gateway.json("/v1/rows?name=requests")
-    return sum(int(it["total"]) for it in told["rows"]) if told else 0
+    return sum(int(row["total"]) for row in told["rows"]) if told else 0
 
 
 def holds(gateway, wanted):
@@ -57,9 +57,9 @@ class Trial:
 
     def set_aside(self, count):
         """As many files are set aside, and it says so."""
-        found = sorted(it.name for it in self.folder.glob("*.damaged-*"))
-        lines = [json.loads(it) for it in self.gateway.log.read_text().splitlines() if it.startswith("{")]
-        told = [it for it in lines if it["level"] == "error" and "set aside" in it["message"]]
+        found = sorted(path.name for path in self.folder.glob("*.damaged-*"))
+        lines = [json.loads(line) for line in self.gateway.log.read_text().splitlines() if line.startswith("{")]
+        told = [line for line in lines if line["level"] == "error" and "set aside" in line["message"]]
         if len(found) != count or len(told) != count:
             raise Fault(f"{found} are set aside, and {told} is told, where {count} were damaged")
 
@@ -71,18 +71,18 @@ def changed(file, at):
 
 
 def comes_back(program, room):
-    with Trial(program, room, "kept") as it:
-        pushed(it.gateway, 1, 5)
-        it.again()
-        holds(it.gateway, 5)
-        pushed(it.gateway, 2, 7)
-        it.again(by=signal.SIGTERM)
-        holds(it.gateway, 12)
-        pushed(it.gateway, 1, 6)
-        it.again()
-        holds(it.gateway, 13)
-        it.set_aside(0)
-        if not (it.folder / "state.ktsm").is_file() or (it.folder / "state.part").exists():
+    with Trial(program, room, "kept") as trial:
+        pushed(trial.gateway, 1, 5)
+        trial.again()
+        holds(trial.gateway, 5)
+        pushed(trial.gateway, 2, 7)
+        trial.again(by=signal.SIGTERM)
+        holds(trial.gateway, 12)
+        pushed(trial.gateway, 1, 6)
+        trial.again()
+        holds(trial.gateway, 13)
+        trial.set_aside(0)
+        if not (trial.folder / "state.ktsm").is_file() or (trial.folder / "state.part").exists():
             raise Fault("there is no state, or half of one")
 
 
@@ -90,71 +90,69 @@ def is_read_by_otm_form(program, room):
     """The state is a message as docs/use/FILES.md has it: the Python kit reads it."""
     from kotskhin import Gateway as Kit
 
-    with Trial(program, room, "form") as it:
-        pushed(it.gateway, 1, 5)
-        it.gateway.stop()
+    with Trial(program, room, "form") as trial:
+        pushed(trial.gateway, 1, 5)
+        trial.gateway.stop()
         with Kit(2) as kept:
-            kept.merge_bytes((it.folder / "state.ktsm").read_bytes())
+            kept.merge_bytes((trial.folder / "state.ktsm").read_bytes())
             if "5\n" not in kept.sum("service.test", "requests", "1"):
                 raise Fault("the state is of something else")
 
 
 def damaged_state(program, room):
-    with Trial(program, room, "state") as it:
-        pushed(it.gateway, 1, 5)
-        it.again(by=signal.SIGTERM)
-        pushed(it.gateway, 2, 7)
-        it.again(lambda: changed(it.folder / "state.ktsm", 20))
-        holds(it.gateway, 7)
-        it.set_aside(1)
-        it.again()
-        holds(it.gateway, 7)
+    with Trial(program, room, "state") as trial:
+        pushed(trial.gateway, 1, 5)
+        trial.again(by=signal.SIGTERM)
+        pushed(trial.gateway, 2, 7)
+        trial.again(lambda: changed(trial.folder / "state.ktsm", 20))
+        holds(trial.gateway, 7)
+        trial.set_aside(1)
+        trial.again()
+        holds(trial.gateway, 7)
 
 
 def cut_state(program, room):
-    with Trial(program, room, "cut") as it:
-        pushed(it.gateway, 1, 5)
-        state = it.folder / "state.ktsm"
-        it.again(lambda: state.write_bytes(state.read_bytes()[:-9]), by=signal.SIGTERM)
-        holds(it.gateway, 0)
-        it.set_aside(1)
+    with Trial(program, room, "cut") as trial:
+        pushed(trial.gateway, 1, 5)
+        state = trial.folder / "state.ktsm"
+        trial.again(lambda: state.write_bytes(state.read_bytes()[:-9]), by=signal.SIGTERM)
+        holds(trial.gateway, 0)
+        trial.set_aside(1)
 
 
 def damaged_journal(program, room):
-    with Trial(program, room, "journal") as it:
+    with Trial(program, room, "journal") as trial:
         for instance, value in ((1, 5), (2, 7), (3, 11)):
-            pushed(it.gateway, instance, value)
+            pushed(trial.gateway, instance, value)
 
         def damage():
-            (file,) = (it for it in it_folder.glob("journal.*") if it.stat().st_size > 5)
+            (file,) = (path for path in trial.folder.glob("journal.*") if path.stat().st_size > 5)
             length = int.from_bytes(file.read_bytes()[5:9], "big")
             changed(file, 5 + 8 + length + 8 + 10)
 
-        it_folder = it.folder
-        it.again(damage)
-        holds(it.gateway, 5)
-        it.set_aside(1)
+        trial.again(damage)
+        holds(trial.gateway, 5)
+        trial.set_aside(1)
 
 
 def cut_journal(program, room):
     """The last record of a process that was killed may be cut: nobody was told of it."""
-    with Trial(program, room, "tail") as it:
-        pushed(it.gateway, 1, 5)
-        pushed(it.gateway, 2, 7)
+    with Trial(program, room, "tail") as trial:
+        pushed(trial.gateway, 1, 5)
+        pushed(trial.gateway, 2, 7)
 
         def cut():
-            (file,) = (it for it in it_folder.glob("journal.*") if it.stat().st_size > 5)
+            (file,) = (path for path in trial.folder.glob("journal.*") if path.stat().st_size > 5)
             file.write_bytes(file.read_bytes()[:-3])
 
-        it_folder = it.folder
-        it.again(cut)
-        holds(it.gateway, 5)
-        it.set_aside(0)
+        trial.again(cut)
+        holds(trial.gateway, 5)
+        trial.set_aside(0)
 
 
 def one_process(program, room):
-    with Trial(program, room, "one") as it:
-        other = Gateway(program, 2, ADDRESS, [], it.folder, room / "other.log", port=PORT + 1)
+    with Trial(program, room, "one") as trial:
+        other = Gateway(program, 2, ADDRESS, [], trial.folder, room / "other.log", port=PORT + 1)
         other.start()
         if other.wait() != 1 or "another process has" not in other.tail():
             raise Fault(f"two processes have one folder\n{other.tail()}")

@@ -59,7 +59,7 @@ def fleet(_, room, kit):
 
 def said_by(*words):
     """What a command prints that must succeed."""
-    done = subprocess.run([str(it) for it in words], stdin=subprocess.DEVNULL, capture_output=True, text=True, timeout=PATIENCE, check=False)
+    done = subprocess.run([str(word) for word in words], stdin=subprocess.DEVNULL, capture_output=True, text=True, timeout=PATIENCE, check=False)
     if done.returncode:
         raise Fault(f"{words} ends with status {done.returncode}\n{done.stdout}{done.stderr}")
     return done.stdout
@@ -94,13 +94,13 @@ def queries(program, room, _):
     with contextlib.ExitStack() as stack:
         gateways = []
         for number, port in enumerate(ports):
-            peers = [f"http://{ADDRESS}:{it}" for it in ports if it != port]
+            peers = [f"http://{ADDRESS}:{other}" for other in ports if other != port]
             words = (program, number, ADDRESS, peers, room / f"query{number}", room / f"query{number}.log")
             gateways.append(Gateway(*words, flags=("--gossip-interval", "100ms"), port=port))
             stack.callback(gateways[-1].kill)
             gateways[-1].start()
-        until(lambda: all(it.is_ready() for it in gateways), lambda: gateways[0].tail())
-        total, targets = pushed(gateways), [f"{ADDRESS}:{it}" for it in ports]
+        until(lambda: all(gateway.is_ready() for gateway in gateways), lambda: gateways[0].tail())
+        total, targets = pushed(gateways), [f"{ADDRESS}:{port}" for port in ports]
         rules = [FLEET / "rules.yml"]
         scrapes = stack.enter_context(running(room / "queries", targets, port=free_port(), every="1s", rules=rules))
         # (once each of the three shows all)
@@ -111,7 +111,7 @@ def queries(program, room, _):
             if not told.startswith(f"{{}} => {total} @"):
                 raise Fault(f"{query} of three gateways gives {told!r}, and {total} were counted")
         blocks = re.findall(r"^```promql\n(.*?)^```$", PAGE, re.M | re.S)
-        for query in (line.split(" #")[0] for it in blocks for line in it.splitlines()):
+        for query in (line.split(" #")[0] for block in blocks for line in block.splitlines()):
             said_by("promtool", "query", "instant", f"http://{ADDRESS}:{scrapes.port}", query)
         if not blocks:
             raise Fault("the page has no query")
@@ -129,7 +129,7 @@ def configurations(_, room, __):
         secret.write_text("91b7e3f0a8c24d6f5e0a", encoding="utf-8")
         (room / f"page{number}.yml").write_text(re.sub(r"(credentials_file:) \S+", rf"\1 {secret}", block), encoding="utf-8")
         said_by("promtool", "check", "config", room / f"page{number}.yml")
-    if not any("credentials_file" in it for it in blocks):
+    if not any("credentials_file" in block for block in blocks):
         raise Fault("the page does not say how Prometheus sends a token")
 
 
@@ -141,7 +141,7 @@ def flags(program, *_):
     said = {}
     for names, default in (line.split("|")[1:3] for line in table.splitlines() if line.startswith("| `--")):
         names = re.findall(r"`--([\w-]+)`", names)
-        defaults = [it.strip("` ") for it in default.split(",")]
+        defaults = [word.strip("` ") for word in default.split(",")]
         said.update(zip(names, defaults if len(defaults) == len(names) else [""] * len(names)))
     said.pop("help")
     length = {"1m0s": "1m", "2m0s": "2m", "1h0m0s": "1h"}
@@ -178,7 +178,7 @@ def paths(program, room, _):
         page = gateway.text("/metrics")
         found = set(re.findall(r"^# TYPE kotskhin_gateway(_\S+)", page, re.M))
         section = PAGE.split("\n## What it says of itself\n")[1].split("\n## ")[0]
-        said = {it.removeprefix("kotskhin_gateway") for it in re.findall(r"`((?:kotskhin_gateway)?_\w+)`", section)}
+        said = {found.removeprefix("kotskhin_gateway") for found in re.findall(r"`((?:kotskhin_gateway)?_\w+)`", section)}
         # (what was never counted has no sample)
         if not found <= said or not {"_requests_total", "_held_points", "_peer_lag_seconds", "_journal_bytes", "_refused_total"} <= found:
             raise Fault(f"the page does not name {sorted(found - said)}; it has {sorted(found)}")

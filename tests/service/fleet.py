@@ -46,9 +46,9 @@ def asked(address, method, path, body=None, heads=None, timeout=ANSWER, port=POR
 def free_port(address="127.0.0.1"):
     """A port that is free, below those that the system gives to who asks for any: so nobody gets it until it is used."""
     while True:
-        with socket.socket() as it, contextlib.suppress(OSError):
-            it.bind((address, random.randrange(20_000, 32_000)))
-            return it.getsockname()[1]
+        with socket.socket() as listening, contextlib.suppress(OSError):
+            listening.bind((address, random.randrange(20_000, 32_000)))
+            return listening.getsockname()[1]
 
 
 class Gateway:
@@ -57,7 +57,7 @@ class Gateway:
     def __init__(self, program, number, address, peers, state, log, inside=(), flags=(), port=PORT):
         self.number, self.address, self.state, self.log, self.port = number, address, state, log, port
         self.process, self.starts = None, 0
-        peers = [word for it in peers for word in ("--peer", it)]
+        peers = [word for peer in peers for word in ("--peer", peer)]
         self.words = [*inside, str(program), "--listen", f"{address}:{port}", "--state", str(state), "--log-level", "info", *peers, *flags]
 
     def start(self):
@@ -65,7 +65,7 @@ class Gateway:
         with open(self.log, "ab") as log:
             log.write(f"--- start {self.starts}\n".encode())
             log.flush()
-            environment = {it: value for it, value in os.environ.items() if not it.startswith("KOTSKHIN_")}
+            environment = {name: value for name, value in os.environ.items() if not name.startswith("KOTSKHIN_")}
             # (a test has no time to wait as long as SERVICE asks)
             environment["KOTSKHIN_UNSAFE_ARCHIVE_AFTER"] = "1"
             self.process = subprocess.Popen(self.words, stdin=subprocess.DEVNULL, stdout=log, stderr=log, env=environment)
@@ -132,14 +132,14 @@ def tables_of(gateway):
     if told is None:
         return None
     tables = {}
-    for it in told["streams"]:
-        words = {"scope": it["scope"], "name": it["name"], "unit": it["unit"], "shape": it["shape"]}
-        if "bounds" in it:
-            words["bounds"] = ",".join(map(str, it["bounds"]))
+    for stream in told["streams"]:
+        words = {"scope": stream["scope"], "name": stream["name"], "unit": stream["unit"], "shape": stream["shape"]}
+        if "bounds" in stream:
+            words["bounds"] = ",".join(map(str, stream["bounds"]))
         query = "&".join(f"{name}={http_word(value)}" for name, value in words.items())
         tables[tuple(words.items())] = gateway.text(f"/v1/table?{query}")
     return None if None in tables.values() else tables
 
 
 def http_word(text):
-    return "".join(it if it.isalnum() else "".join(f"%{byte:02X}" for byte in it.encode()) for it in text)
+    return "".join(letter if letter.isalnum() else "".join(f"%{byte:02X}" for byte in letter.encode()) for letter in text)

@@ -46,7 +46,7 @@ def seconds_of(process):
 def memory(process):
     """Now, and at most so far, in MB."""
     told = dict(line.split(":", 1) for line in open(f"/proc/{process}/status") if ":" in line)
-    return {name: round(int(told[it].split()[0]) / 1024) for name, it in (("MB", "VmRSS"), ("most MB", "VmHWM"))}
+    return {name: round(int(told[word].split()[0]) / 1024) for name, word in (("MB", "VmRSS"), ("most MB", "VmHWM"))}
 
 
 def posted(program, processors, kind, port, *more):

@@ -58,7 +58,7 @@ class Nemesis:
     def parts(self):
         """One gateway, and at times each, hears the others no more."""
         for number in self.gateways if self.chance.random() < 0.2 else [self.any()]:
-            self.network.cut(number, [it for it in self.gateways if it != number])
+            self.network.cut(number, [other for other in self.gateways if other != number])
         self.later(self.network.heal)
 
     def hides(self):
@@ -91,7 +91,7 @@ class Nemesis:
         number = worker.gateways[worker.last]
         if number in self.dead:
             return
-        self.network.cut(number, [it for it in self.gateways if it != number])
+        self.network.cut(number, [other for other in self.gateways if other != number])
         taken, end = worker.counts["taken"], time.monotonic() + 1
         while worker.counts["taken"] < taken + 2 and time.monotonic() < end:
             time.sleep(0.005)

@@ -12,7 +12,7 @@ OWN = ("unshare", "--net", "--mount", "--pid", "--fork", "--kill-child", "--moun
 
 
 def called(*words):
-    return subprocess.run([str(it) for it in words], capture_output=True, text=True, stdin=subprocess.DEVNULL, timeout=60, check=False)
+    return subprocess.run([str(word) for word in words], capture_output=True, text=True, stdin=subprocess.DEVNULL, timeout=60, check=False)
 
 
 def done(*words):
@@ -28,7 +28,7 @@ class Namespaces:
     has_loss = True
 
     def __init__(self, count):
-        self.addresses = {it: f"10.77.0.{10 + it}" for it in range(1, count + 1)}
+        self.addresses = {number: f"10.77.0.{10 + number}" for number in range(1, count + 1)}
 
     def name(self, number):
         return f"g{number}"
@@ -103,7 +103,7 @@ class Disks:
     """A small disk for each gateway's state, where one may be mounted; else a folder, which is never full."""
 
     def __init__(self, room, count, size="8m"):
-        self.folders = {it: pathlib.Path(room) / f"state{it}" for it in range(1, count + 1)}
+        self.folders = {number: pathlib.Path(room) / f"state{number}" for number in range(1, count + 1)}
         self.mounted = set()
         for number, folder in self.folders.items():
             folder.mkdir()

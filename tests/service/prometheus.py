@@ -30,7 +30,7 @@ class Prometheus:
         status, _, body = asked(self.address, "GET", "/api/v1/query?" + urllib.parse.urlencode({"query": query}), port=self.port)
         if status != 200:
             return []
-        return [(it["metric"], float(it["value"][1])) for it in json.loads(body)["data"]["result"]]
+        return [(row["metric"], float(row["value"][1])) for row in json.loads(body)["data"]["result"]]
 
     def page_of(self, instance):
         """What it keeps of a gateway's last page."""
@@ -54,7 +54,7 @@ class Prometheus:
 def running(folder, targets, address="127.0.0.1", port=9090, every="2s", more="", rules=()):
     """A Prometheus of these targets, with a folder of its own, with more lines of what is scraped, and with files of rules."""
     folder.mkdir()
-    listed = ", ".join(f"'{it}'" for it in targets)
+    listed = ", ".join(f"'{target}'" for target in targets)
     (folder / "prometheus.yml").write_text(
         f"global:\n  scrape_interval: {every}\n  scrape_timeout: {every}\n  evaluation_interval: {every}\n"
         f"rule_files: [{', '.join(map(repr, map(str, rules)))}]\n"

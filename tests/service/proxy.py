@@ -27,14 +27,14 @@ class Proxy:
     def close(self):
         self.server.shutdown()
         self.server.server_close()
-        for it in self.late:
-            it.join()
+        for thread in self.late:
+            thread.join()
 
     def calm(self):
         """Everything is brought once, at once. What was held back is brought before this returns."""
         self.delay = self.twice = self.holds = self.again = 0.0
-        for it in self.late:
-            it.join()
+        for thread in self.late:
+            thread.join()
 
     def drawn(self, chance):
         with self.guard:
@@ -46,7 +46,7 @@ class Proxy:
 
     def other(self, number):
         with self.guard:
-            return self.chance.choice([it for it in self.addresses if it != number])
+            return self.chance.choice([other for other in self.addresses if other != number])
 
     def bring(self, number, path, body, heads, timeout=ANSWER):
         return asked(self.addresses[number], "POST", path, body, heads, timeout, self.port)
@@ -89,7 +89,7 @@ class Proxy:
             def do_POST(self):
                 body = self.rfile.read(int(self.headers["Content-Length"]))
                 _, number, path = self.path.split("/", 2)
-                heads = {it: self.headers[it] for it in ("Content-Type", "Content-Encoding") if it in self.headers}
+                heads = {name: self.headers[name] for name in ("Content-Type", "Content-Encoding") if name in self.headers}
                 status, told = proxy.take(int(number), f"/{path}", body, heads)
                 try:
                     self.send_response(status or 502)
@@ -145,14 +145,14 @@ class Link:
         self.end(source, sink)
 
     def end(self, *sockets):
-        for it in sockets:
+        for one in sockets:
             with self.guard:
-                self.open.discard(it)
+                self.open.discard(one)
             try:
-                it.shutdown(socket.SHUT_RDWR)
+                one.shutdown(socket.SHUT_RDWR)
             except OSError:
                 pass
-            it.close()
+            one.close()
 
     def cut(self, is_cut):
         self.is_cut = is_cut
@@ -172,7 +172,7 @@ class Loopback:
     has_loss = False
 
     def __init__(self, count, port):
-        self.addresses = {it: f"127.0.0.{10 + it}" for it in range(1, count + 1)}
+        self.addresses = {number: f"127.0.0.{10 + number}" for number in range(1, count + 1)}
         self.links = {
             (one, other): Link((self.addresses[other], port)) for one in self.addresses for other in self.addresses if one != other
         }

@@ -143,7 +143,7 @@ class Run:
 
         with contextlib.ExitStack() as stack:
             network, disks = network_of(stack, self.room)
-            targets = [f"{it}:{PORT}" for it in network.addresses.values()]
+            targets = [f"{address}:{PORT}" for address in network.addresses.values()]
             scrapes = stack.enter_context(prometheus.running(self.room / "prometheus", targets, port=free_port()))
             for seed in seeds:
                 self.try_it(

@@ -57,7 +57,7 @@ class Worker:
         self.lives.append(Life(self.seed, self.number, len(self.lives) + 1))
         self.writer = Writer(self.plan, self.service, self.instance, self.now())
         life = self.lives[-1].name()
-        self.sets = {it: Attributes({"route": it, "life": life}) for it in ROUTES}
+        self.sets = {route: Attributes({"route": route, "life": life}) for route in ROUTES}
         self.totals = {}
 
     def count(self):

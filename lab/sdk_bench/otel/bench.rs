@@ -20,7 +20,7 @@ unsafe extern "C" {
 
 fn number(place: usize) -> usize {
     let word = env::args().nth(place);
-    word.and_then(|it| it.parse().ok()).unwrap_or(1)
+    word.and_then(|word| word.parse().ok()).unwrap_or(1)
 }
 
 fn main() -> Result<(), Box<dyn std::error::Error>> {
@@ -47,7 +47,7 @@ fn main() -> Result<(), Box<dyn std::error::Error>> {
             });
             let hands: Vec<_> = hands.collect();
             // (by each one's end: a scope does not wait until the logs of its threads are given up)
-            hands.into_iter().for_each(|it| drop(it.join()));
+            hands.into_iter().for_each(|hand| drop(hand.join()));
         });
         last = Some(provider.collect()?);
         let recordings = (threads * TIMES) as f64;

@@ -29,10 +29,10 @@ def main():
         for _ in range(rounds):
             began, ran = time.perf_counter_ns(), time.process_time_ns()
             hands = [threading.Thread(target=work) for _ in range(threads)]
-            for it in hands:
-                it.start()
-            for it in hands:
-                it.join()
+            for hand in hands:
+                hand.start()
+            for hand in hands:
+                hand.join()
             generate_latest(registry)
             least = min(least, (time.perf_counter_ns() - began) / (threads * TIMES))
             processor = min(processor, (time.process_time_ns() - ran) / (threads * TIMES))

@@ -31,33 +31,33 @@ using OwnedPairs = std::vector<std::pair<std::string, OwnedValue>>;
 namespace detail {
 
 template <typename Given>
-AttributeValue value_of(const Given &value) {
-    if constexpr (std::is_same_v<Given, OwnedValue>) return std::visit([](auto &it) { return AttributeValue(it); }, value);
+AttributeValue to_value(const Given &value) {
+    if constexpr (std::is_same_v<Given, OwnedValue>) return std::visit([](auto &owned) { return AttributeValue(owned); }, value);
     else return value;
 }
 
 inline void add(Handle<kit_pairs> &list, Text key, const AttributeValue &given) {
     if (auto text = std::get_if<std::string_view>(&given.value)) {
         Text value(*text);
-        checked(kit_pairs_add_text(list.at(), key.at, key.len, value.at, value.len));
+        check(kit_pairs_add_text(list.at(), key.at, key.len, value.at, value.len));
     } else if (auto whole = std::get_if<int64_t>(&given.value)) {
-        checked(kit_pairs_add_whole(list.at(), key.at, key.len, *whole));
+        check(kit_pairs_add_whole(list.at(), key.at, key.len, *whole));
     } else {
-        checked(kit_pairs_add_truth(list.at(), key.at, key.len, std::get<bool>(given.value)));
+        check(kit_pairs_add_truth(list.at(), key.at, key.len, std::get<bool>(given.value)));
     }
 }
 
-inline OwnedPairs pairs_in(const Handle<kit_attributes> &set) {
+inline OwnedPairs read_pairs(const Handle<kit_attributes> &set) {
     size_t count = 0;
-    checked(kit_attributes_len(set.lent().at(), &count));
+    check(kit_attributes_len(set.lent().at(), &count));
     OwnedPairs pairs;
     for (size_t number = 0; number < count; number++) {
-        std::string key = text([&](auto... room) { return kit_attributes_key(set.lent().at(), number, room...); });
+        std::string key = copy_text([&](auto... room) { return kit_attributes_key(set.lent().at(), number, room...); });
         uint8_t kind = 0;
         int64_t whole = 0;
-        checked(kit_attributes_value(set.lent().at(), number, &kind, &whole));
+        check(kit_attributes_value(set.lent().at(), number, &kind, &whole));
         OwnedValue value;
-        if (kind == 0) value = text([&](auto... room) { return kit_attributes_text(set.lent().at(), number, room...); });
+        if (kind == 0) value = copy_text([&](auto... room) { return kit_attributes_text(set.lent().at(), number, room...); });
         else if (kind == 1) value = whole;
         else value = whole == 1;
         pairs.emplace_back(std::move(key), std::move(value));
@@ -77,7 +77,7 @@ public:
     // Of a map, or of a range of pairs.
     template <typename Range, typename = std::enable_if_t<detail::is_pairs<Range>>>
     explicit Pairs(const Range &pairs) {
-        for (auto &[key, value] : pairs) add(key, detail::value_of(value));
+        for (auto &[key, value] : pairs) add(key, detail::to_value(value));
     }
     void add(Text key, const AttributeValue &value) { detail::add(handle, key, value); }
 };
@@ -86,28 +86,28 @@ public:
 class Attributes : public Thing<kit_attributes> {
     Pairs of;
 
-    static Handle<kit_attributes> made(const Pairs &pairs) {
+    static Handle<kit_attributes> make(const Pairs &pairs) {
         Handle<kit_attributes> set;
         uint64_t place = 0;
-        checked(kit_attributes_make(set.at(), pairs.raw().lent().at(), &place), place);
+        check(kit_attributes_make(set.at(), pairs.raw().lent().at(), &place), place);
         return set;
     }
 
 public:
     Attributes() : Attributes(Pairs()) {}
-    explicit Attributes(Pairs &&pairs) : Thing(made(pairs)), of(std::move(pairs)) {}
+    explicit Attributes(Pairs &&pairs) : Thing(make(pairs)), of(std::move(pairs)) {}
     Attributes(std::initializer_list<std::pair<std::string_view, AttributeValue>> pairs) : Attributes(Pairs(pairs)) {}
     // Of a map, or of a range of pairs.
     template <typename Range, typename = std::enable_if_t<detail::is_pairs<Range>>>
     explicit Attributes(const Range &pairs) : Attributes(Pairs(pairs)) {}
 
     // Its pairs, in the order of their keys: each key once.
-    OwnedPairs pairs() const { return detail::pairs_in(handle); }
+    OwnedPairs pairs() const { return detail::read_pairs(handle); }
 
     // An equal set, for a call that has its set for itself.
-    Handle<kit_attributes> apart() const {
+    Handle<kit_attributes> copy_handle() const {
         if (!handle) detail::refuse(KIT_NOTHING);
-        return made(of);
+        return make(of);
     }
 };
 

@@ -10,7 +10,7 @@
 namespace kotskhin {
 
 // What a code says, behind its name.
-inline std::string said(int32_t code) {
+inline std::string describe(int32_t code) {
     uint8_t none = 0;
     std::string text(kit_code_text(code, &none, 0), ' ');
     kit_code_text(code, reinterpret_cast<uint8_t *>(text.data()), text.size());
@@ -53,12 +53,12 @@ struct Refused : std::runtime_error {
     std::optional<uint64_t> place, second;
 
     explicit Refused(int32_t code, std::optional<uint64_t> place = {}, std::optional<uint64_t> second = {})
-        : std::runtime_error("kotskhin: " + said(code) + told(place, second)), code(code), place(place), second(second) {}
+        : std::runtime_error("kotskhin: " + describe(code) + describe_places(place, second)), code(code), place(place), second(second) {}
     // By a code that is not of kotskhin.h, and what it says.
     Refused(int32_t code, const std::string &says) : std::runtime_error("kotskhin: " + says), code(code) {}
 
 private:
-    static std::string told(std::optional<uint64_t> place, std::optional<uint64_t> second) {
+    static std::string describe_places(std::optional<uint64_t> place, std::optional<uint64_t> second) {
         if (!place) return "";
         return " (" + std::to_string(*place) + (second ? " and " + std::to_string(*second) : "") + ")";
     }
@@ -158,34 +158,34 @@ using ReservedPoint = RefusedBy<KIT_RESERVED_POINT>;
 namespace detail {
 
 template <int32_t... Codes>
-[[noreturn]] void thrown(int32_t code, std::optional<uint64_t> place, std::optional<uint64_t> second,
-                         std::integer_sequence<int32_t, Codes...>) {
+[[noreturn]] void throw_refused(int32_t code, std::optional<uint64_t> place, std::optional<uint64_t> second,
+                                std::integer_sequence<int32_t, Codes...>) {
     ((code == Codes ? throw RefusedBy<Codes>(place, second) : void()), ...);
     throw Refused(code, place, second);
 }
 
 // Throws the class of a code that is not KIT_OK: the codes are those below 128.
 [[noreturn]] inline void refuse(int32_t code, std::optional<uint64_t> place = {}, std::optional<uint64_t> second = {}) {
-    thrown(code, place, second, std::make_integer_sequence<int32_t, 128>());
+    throw_refused(code, place, second, std::make_integer_sequence<int32_t, 128>());
 }
 
 }  // namespace detail
 
-inline void checked(int32_t code) {
+inline void check(int32_t code) {
     if (code != KIT_OK) detail::refuse(code);
 }
 
 // Of a call that tells a place. (by references: a call and what it tells are written down as arguments beside each other)
-inline void checked(int32_t code, const uint64_t &place) {
+inline void check(int32_t code, const uint64_t &place) {
     if (code == KIT_OK) return;
     if (places_of(code) == 0) detail::refuse(code);
     detail::refuse(code, place);
 }
 
 // Of a call that tells two.
-inline void checked(int32_t code, const uint64_t &place, const uint64_t &second) {
+inline void check(int32_t code, const uint64_t &place, const uint64_t &second) {
     if (places_of(code) == 2) detail::refuse(code, place, second);
-    checked(code, place);
+    check(code, place);
 }
 
 }  // namespace kotskhin

@@ -25,39 +25,39 @@ struct Taking {
 class Gateway : public Thing<kit_gateway> {
 public:
     // A gateway without points. The ids of gateways that exchange messages are distinct.
-    explicit Gateway(Number<uint32_t> id) { checked(kit_gateway_open(handle.at(), id)); }
+    explicit Gateway(Number<uint32_t> id) { check(kit_gateway_open(handle.at(), id)); }
     explicit Gateway(Handle<kit_gateway> &&has) : Thing(std::move(has)) {}
 
     // Takes an export, and forgets what a tombstone then names.
     Taking take(const Export &given) {
         Taking taking{};
-        checked(kit_gateway_take(handle.at(), given.raw().lent().at(), &taking.changed, &taking.is_late));
+        check(kit_gateway_take(handle.at(), given.raw().lent().at(), &taking.changed, &taking.is_late));
         return taking;
     }
     // Joins what another gateway holds, forgets what a tombstone then names, and tells the number of keys that the join changed.
     uint64_t merge(const Gateway &other) {
         uint64_t changed = 0;
-        if (&other != this) checked(kit_gateway_merge(handle.at(), other.handle.lent().at(), &changed));
+        if (&other != this) check(kit_gateway_merge(handle.at(), other.handle.lent().at(), &changed));
         return changed;
     }
-    // The same of a gateway whose bytes encode made, or of what a message carries. So a gateway comes back: under an id that was never used.
-    // Under the id of old it would never be told again what it had acknowledged after the bytes were made.
+    // The same of a gateway whose bytes encode made, or of what a message carries. So a gateway comes back: under an id that was never
+    // used. Under the id of old it would never be told again what it had acknowledged after the bytes were made.
     uint64_t merge_bytes(Bytes bytes) {
         uint64_t changed = 0, place = 0;
-        checked(kit_gateway_merge_bytes(handle.at(), bytes.at, bytes.len, &changed, &place), place);
+        check(kit_gateway_merge_bytes(handle.at(), bytes.at, bytes.len, &changed, &place), place);
         return changed;
     }
     // A message to the gateway of an id: what changed since the last one that it answered.
     Message send(Number<uint32_t> to) const {
         Handle<kit_message> made;
-        checked(kit_gateway_send(handle.lent().at(), to, made.at()));
+        check(kit_gateway_send(handle.lent().at(), to, made.at()));
         return Message(std::move(made));
     }
     // Takes in a message, forgets what a tombstone then names, and gives the answer to its sender, if there is one.
     std::optional<Message> hand(const Message &message) {
         bool answered = false;
         Handle<kit_message> made;
-        checked(kit_gateway_hand(handle.at(), message.raw().lent().at(), made.at(), &answered));
+        check(kit_gateway_hand(handle.at(), message.raw().lent().at(), made.at(), &answered));
         if (!answered) return std::nullopt;
         return Message(std::move(made));
     }
@@ -68,34 +68,34 @@ public:
         return made.has_value();
     }
     GatewayHead head() const {
-        GatewayHead told{};
+        GatewayHead head{};
         uint64_t conflicts = 0;
-        checked(kit_gateway_read(handle.lent().at(), &told.id, &told.points, &conflicts));
-        return told;
+        check(kit_gateway_read(handle.lent().at(), &head.id, &head.points, &conflicts));
+        return head;
     }
     // The streams of which it holds points, each once.
     Streams streams() const {
         Handle<kit_streams> streams;
-        checked(kit_gateway_streams(handle.lent().at(), streams.at()));
+        check(kit_gateway_streams(handle.lent().at(), streams.at()));
         return Streams(std::move(streams));
     }
     // The number of keys at whose time different values came: two writers recorded under one identity.
     uint64_t conflicts() const {
         GatewayHead head{};
         uint64_t count = 0;
-        checked(kit_gateway_read(handle.lent().at(), &head.id, &head.points, &count));
+        check(kit_gateway_read(handle.lent().at(), &head.id, &head.points, &count));
         return count;
     }
     // Whether both hold equal points; ids are not compared.
     bool same(const Gateway &other) const {
         bool is_same = false;
-        checked(kit_gateway_same(handle.lent().at(), other.handle.lent().at(), &is_same));
+        check(kit_gateway_same(handle.lent().at(), other.handle.lent().at(), &is_same));
         return is_same;
     }
     // The greatest time that is held of one incarnation of a service's instance.
     uint64_t newest(Text service, Instance instance, Time start) const {
         uint64_t time = 0;
-        checked(kit_gateway_newest(handle.lent().at(), service.at, service.len, instance.high, instance.low, start, &time));
+        check(kit_gateway_newest(handle.lent().at(), service.at, service.len, instance.high, instance.low, start, &time));
         return time;
     }
     uint64_t newest(Text service, uint64_t instance_high, uint64_t instance_low, Time start) const {
@@ -104,7 +104,7 @@ public:
     // The rows that answer an ask, in the order of their attribute sets.
     Rows rows(const Ask &ask) const {
         Handle<kit_rows> rows;
-        checked(kit_gateway_rows(handle.lent().at(), ask.raw().lent().at(), rows.at()));
+        check(kit_gateway_rows(handle.lent().at(), ask.raw().lent().at(), rows.at()));
         return Rows(std::move(rows));
     }
     // Their table: a line for each row below a header.
@@ -114,38 +114,39 @@ public:
     // Of whom it holds points.
     std::vector<Incarnation> incarnations() const {
         Handle<kit_incarnations> list;
-        checked(kit_gateway_incarnations(handle.lent().at(), list.at()));
-        return detail::incarnations(list);
+        check(kit_gateway_incarnations(handle.lent().at(), list.at()));
+        return detail::read_incarnations(list);
     }
     // The services of which it holds points, each once.
     std::vector<std::string> services() const {
         std::vector<std::string> all;
         try {
             for (;;)
-                all.push_back(detail::text([&](auto... room) { return kit_gateway_service(handle.lent().at(), all.size(), room...); }));
+                all.push_back(
+                    detail::copy_text([&](auto... room) { return kit_gateway_service(handle.lent().at(), all.size(), room...); }));
         } catch (const NoItem &) {
             return all;
         }
     }
     // The page of what it holds, in OpenMetrics 1.0: of one service, or of all where none is said. It answers a request that accepts
     // application/openmetrics-text, with Content-Type: application/openmetrics-text; version=1.0.0; charset=utf-8.
-    std::string openmetrics(std::optional<std::string_view> service = {}) const { return page(service, kit_gateway_openmetrics); }
+    std::string openmetrics(std::optional<std::string_view> service = {}) const { return render_page(service, kit_gateway_openmetrics); }
     // The same page in Prometheus' text format 0.0.4, with Content-Type: text/plain; version=0.0.4; charset=utf-8.
-    std::string prometheus(std::optional<std::string_view> service = {}) const { return page(service, kit_gateway_prometheus); }
+    std::string prometheus(std::optional<std::string_view> service = {}) const { return render_page(service, kit_gateway_prometheus); }
     // All its points as bytes, to be kept: merge_bytes brings them back.
     std::vector<uint8_t> encode() const {
         Handle<kit_bytes> bytes;
-        checked(kit_gateway_encode(handle.lent().at(), bytes.at()));
-        return detail::bytes(bytes);
+        check(kit_gateway_encode(handle.lent().at(), bytes.at()));
+        return detail::copy_bytes(bytes);
     }
 
 private:
     template <typename Call>
-    std::string page(std::optional<std::string_view> of, Call call) const {
+    std::string render_page(std::optional<std::string_view> of, Call call) const {
         Handle<kit_text> page;
         Text service(of.value_or(""));
-        checked(call(handle.lent().at(), of.has_value(), service.at, service.len, page.at()));
-        return detail::text([&](auto... room) { return kit_text_copy(page.lent().at(), room...); });
+        check(call(handle.lent().at(), of.has_value(), service.at, service.len, page.at()));
+        return detail::copy_text([&](auto... room) { return kit_text_copy(page.lent().at(), room...); });
     }
 };
 

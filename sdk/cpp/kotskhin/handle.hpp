@@ -122,11 +122,11 @@ namespace detail {
 
 // What a call copies out into a room, of which it tells the whole length, once the room is enough.
 template <typename Room, typename Call>
-Room copied(size_t first, Call call) {
+Room copy_out(size_t first, Call call) {
     Room made(first, typename Room::value_type());
     for (;;) {
         size_t len = 0;
-        checked(call(made.data(), made.size(), &len));
+        check(call(made.data(), made.size(), &len));
         bool is_whole = len <= made.size();
         made.resize(len);
         if (is_whole) return made;
@@ -134,13 +134,13 @@ Room copied(size_t first, Call call) {
 }
 
 template <typename Call>
-std::string text(Call call) {
-    return copied<std::string>(64,
-                               [&](char *into, size_t room, size_t *len) { return call(reinterpret_cast<uint8_t *>(into), room, len); });
+std::string copy_text(Call call) {
+    return copy_out<std::string>(64,
+                                 [&](char *into, size_t room, size_t *len) { return call(reinterpret_cast<uint8_t *>(into), room, len); });
 }
 
-inline std::vector<uint8_t> bytes(const Handle<kit_bytes> &made) {
-    return copied<std::vector<uint8_t>>(
+inline std::vector<uint8_t> copy_bytes(const Handle<kit_bytes> &made) {
+    return copy_out<std::vector<uint8_t>>(
         1024, [&](uint8_t *into, size_t room, size_t *len) { return kit_bytes_copy(made.lent().at(), into, room, len); });
 }
 

@@ -17,26 +17,26 @@ public:
         size_t points;
     };
     Envelope envelope() const {
-        Envelope told{};
-        checked(kit_message_read(handle.lent().at(), &told.from, &told.to, &told.points));
-        return told;
+        Envelope envelope{};
+        check(kit_message_read(handle.lent().at(), &envelope.from, &envelope.to, &envelope.points));
+        return envelope;
     }
     // Of whom it carries points: who receives it compares them with those of which its sender may speak.
     std::vector<Incarnation> incarnations() const {
         Handle<kit_incarnations> list;
-        checked(kit_message_incarnations(handle.lent().at(), list.at()));
-        return detail::incarnations(list);
+        check(kit_message_incarnations(handle.lent().at(), list.at()));
+        return detail::read_incarnations(list);
     }
     // Its bytes, for a gateway in another process: each message has one form.
     std::vector<uint8_t> encode() const {
         Handle<kit_bytes> bytes;
-        checked(kit_message_encode(handle.lent().at(), bytes.at()));
-        return detail::bytes(bytes);
+        check(kit_message_encode(handle.lent().at(), bytes.at()));
+        return detail::copy_bytes(bytes);
     }
     static Message decode(Bytes bytes) {
         Handle<kit_message> made;
         uint64_t place = 0;
-        checked(kit_message_decode(made.at(), bytes.at, bytes.len, &place), place);
+        check(kit_message_decode(made.at(), bytes.at, bytes.len, &place), place);
         return Message(std::move(made));
     }
 };

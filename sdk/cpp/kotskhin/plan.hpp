@@ -61,11 +61,11 @@ inline std::vector<int64_t> default_bounds() {
 namespace detail {
 
 template <typename Keys>
-Handle<kit_keys> keys_of(const Keys &keys) {
+Handle<kit_keys> make_keys(const Keys &keys) {
     Handle<kit_keys> list;
-    for (auto &it : keys) {
-        Text key(it);
-        checked(kit_keys_add(list.at(), key.at, key.len));
+    for (auto &given : keys) {
+        Text key(given);
+        check(kit_keys_add(list.at(), key.at, key.len));
     }
     return list;
 }
@@ -81,43 +81,43 @@ public:
     // Of the instruments of one name, but for the case of ASCII letters. It changes nothing yet.
     static View of_name(Text name) {
         View made;
-        checked(kit_view_of_name(made.handle.at(), name.at, name.len));
+        check(kit_view_of_name(made.handle.at(), name.at, name.len));
         return made;
     }
     // Of all instruments. It changes nothing yet.
     static View of_every() {
         View made;
-        checked(kit_view_of_every(made.handle.at()));
+        check(kit_view_of_every(made.handle.at()));
         return made;
     }
     // From now on of one kind; of one scope.
-    View &kind(KindNumber kind) & { return done(kit_view_kind(handle.at(), kind.number)); }
-    View &scope(Text scope) & { return done(kit_view_scope(handle.at(), scope.at, scope.len)); }
+    View &kind(KindNumber kind) & { return chain(kit_view_kind(handle.at(), kind.number)); }
+    View &scope(Text scope) & { return chain(kit_view_scope(handle.at(), scope.at, scope.len)); }
     // From now on its stream has this name.
-    View &rename(Text name) & { return done(kit_view_rename(handle.at(), name.at, name.len)); }
+    View &rename(Text name) & { return chain(kit_view_rename(handle.at(), name.at, name.len)); }
     // From now on its stream keeps these keys of attributes alone.
     template <typename Keys = std::initializer_list<std::string_view>>
     View &keep(const Keys &keys) & {
-        return done(kit_view_keep(handle.at(), detail::keys_of(keys).at()));
+        return chain(kit_view_keep(handle.at(), detail::make_keys(keys).at()));
     }
     // From now on it aggregates so.
-    View &aggregate(AggregationNumber aggregation) & { return done(kit_view_aggregation(handle.at(), aggregation.number)); }
+    View &aggregate(AggregationNumber aggregation) & { return chain(kit_view_aggregation(handle.at(), aggregation.number)); }
     // From now on it is a histogram of these bounds.
-    View &buckets(Bounds bounds) & { return done(kit_view_buckets(handle.at(), bounds.at, bounds.len)); }
+    View &buckets(Bounds bounds) & { return chain(kit_view_buckets(handle.at(), bounds.at, bounds.len)); }
 
-    View kind(KindNumber it) && { return std::move(kind(it)); }
-    View scope(Text it) && { return std::move(scope(it)); }
-    View rename(Text it) && { return std::move(rename(it)); }
+    View kind(KindNumber kind) && { return std::move(this->kind(kind)); }
+    View scope(Text scope) && { return std::move(this->scope(scope)); }
+    View rename(Text name) && { return std::move(rename(name)); }
     template <typename Keys = std::initializer_list<std::string_view>>
-    View keep(const Keys &it) && {
-        return std::move(keep(it));
+    View keep(const Keys &keys) && {
+        return std::move(keep(keys));
     }
-    View aggregate(AggregationNumber it) && { return std::move(aggregate(it)); }
-    View buckets(Bounds it) && { return std::move(buckets(it)); }
+    View aggregate(AggregationNumber aggregation) && { return std::move(aggregate(aggregation)); }
+    View buckets(Bounds bounds) && { return std::move(buckets(bounds)); }
 
 private:
-    View &done(int32_t code) {
-        checked(code);
+    View &chain(int32_t code) {
+        check(code);
         return *this;
     }
 };
@@ -131,7 +131,7 @@ public:
         add(first);
         (add(more), ...);
     }
-    void add(const View &view) { checked(kit_views_add(handle.at(), view.raw().lent().at())); }
+    void add(const View &view) { check(kit_views_add(handle.at(), view.raw().lent().at())); }
 };
 
 // Which instruments feed which streams. Instruments are numbered from 0, in the order in which they are given. Many writers may start
@@ -142,10 +142,10 @@ class Plan : public Thing<kit_plan> {
         Handle<kit_instruments> list;
         for (const Instrument &one : instruments) {
             Text scope(one.scope), name(one.name), unit(one.unit);
-            checked(kit_instruments_add(list.at(), scope.at, scope.len, name.at, name.len, unit.at, unit.len, one.kind.number));
+            check(kit_instruments_add(list.at(), scope.at, scope.len, name.at, name.len, unit.at, unit.len, one.kind.number));
         }
         uint64_t place = 0, second = 0;
-        checked(kit_plan_build(handle.at(), list.at(), views.raw().lent().at(), limit, &place, &second), place, second);
+        check(kit_plan_build(handle.at(), list.at(), views.raw().lent().at(), limit, &place, &second), place, second);
     }
 
 public:
@@ -163,7 +163,7 @@ public:
     // Its streams, whose numbers are those that Overflow tells.
     Streams streams() const {
         Handle<kit_streams> streams;
-        checked(kit_plan_streams(handle.lent().at(), streams.at()));
+        check(kit_plan_streams(handle.lent().at(), streams.at()));
         return Streams(std::move(streams));
     }
 

@@ -16,45 +16,45 @@ public:
     // Of the sum of a counter, which is monotonic, or of an up-down counter, which is not.
     static Ask sum(Text scope, Text name, Text unit, bool monotonic = true) {
         Ask made;
-        checked(kit_ask_sum(made.handle.at(), scope.at, scope.len, name.at, name.len, unit.at, unit.len, monotonic));
+        check(kit_ask_sum(made.handle.at(), scope.at, scope.len, name.at, name.len, unit.at, unit.len, monotonic));
         return made;
     }
     static Ask gauge(Text scope, Text name, Text unit) {
         Ask made;
-        checked(kit_ask_gauge(made.handle.at(), scope.at, scope.len, name.at, name.len, unit.at, unit.len));
+        check(kit_ask_gauge(made.handle.at(), scope.at, scope.len, name.at, name.len, unit.at, unit.len));
         return made;
     }
     static Ask histogram(Text scope, Text name, Text unit, Bounds bounds) {
         Ask made;
-        checked(kit_ask_histogram(made.handle.at(), scope.at, scope.len, name.at, name.len, unit.at, unit.len, bounds.at, bounds.len));
+        check(kit_ask_histogram(made.handle.at(), scope.at, scope.len, name.at, name.len, unit.at, unit.len, bounds.at, bounds.len));
         return made;
     }
     // Of a stream by its number, as it stands.
     static Ask stream(const Streams &streams, size_t number) {
         Ask made;
-        checked(kit_ask_stream(made.handle.at(), streams.raw().lent().at(), number));
+        check(kit_ask_stream(made.handle.at(), streams.raw().lent().at(), number));
         return made;
     }
     // From now on of one service's writers.
-    Ask &service(Text service) & { return done(kit_ask_service(handle.at(), service.at, service.len)); }
+    Ask &service(Text service) & { return chain(kit_ask_service(handle.at(), service.at, service.len)); }
     // From now on of the points that have each of these pairs.
-    Ask &only(const Pairs &pairs) & { return done(kit_ask_only(handle.at(), pairs.raw().lent().at())); }
+    Ask &only(const Pairs &pairs) & { return chain(kit_ask_only(handle.at(), pairs.raw().lent().at())); }
     // From now on rows are told apart by these keys alone.
     template <typename Keys = std::initializer_list<std::string_view>>
     Ask &keep(const Keys &keys) & {
-        return done(kit_ask_keep(handle.at(), detail::keys_of(keys).at()));
+        return chain(kit_ask_keep(handle.at(), detail::make_keys(keys).at()));
     }
 
-    Ask service(Text it) && { return std::move(service(it)); }
-    Ask only(const Pairs &it) && { return std::move(only(it)); }
+    Ask service(Text service) && { return std::move(this->service(service)); }
+    Ask only(const Pairs &pairs) && { return std::move(only(pairs)); }
     template <typename Keys = std::initializer_list<std::string_view>>
-    Ask keep(const Keys &it) && {
-        return std::move(keep(it));
+    Ask keep(const Keys &keys) && {
+        return std::move(keep(keys));
     }
 
 private:
-    Ask &done(int32_t code) {
-        checked(code);
+    Ask &chain(int32_t code) {
+        check(code);
         return *this;
     }
 };
@@ -131,48 +131,48 @@ public:
 
     size_t size() const {
         size_t count = 0;
-        checked(kit_rows_len(handle.lent().at(), &count));
+        check(kit_rows_len(handle.lent().at(), &count));
         return count;
     }
     // The set that a row is of, pair by pair.
     OwnedPairs attributes(size_t row) const {
         Handle<kit_attributes> set;
-        checked(kit_rows_attributes(handle.lent().at(), row, set.at()));
-        return detail::pairs_in(set);
+        check(kit_rows_attributes(handle.lent().at(), row, set.at()));
+        return detail::read_pairs(set);
     }
     // A row as data, and all of them.
     Row row(size_t number) const {
         kit_row read{};
-        checked(kit_rows_read(handle.lent().at(), number, &read));
-        return Row{attributes(number), read.points, read.conflicts, total(number, read)};
+        check(kit_rows_read(handle.lent().at(), number, &read));
+        return Row{attributes(number), read.points, read.conflicts, read_total(number, read)};
     }
     std::vector<Row> all() const {
-        std::vector<Row> told;
-        for (size_t number = 0; number < size(); number++) told.push_back(row(number));
-        return told;
+        std::vector<Row> rows;
+        for (size_t number = 0; number < size(); number++) rows.push_back(row(number));
+        return rows;
     }
     // The table: a line for each row below a header.
     std::string table() const {
         Handle<kit_text> table;
-        checked(kit_rows_table(handle.lent().at(), table.at()));
-        return detail::text([&](auto... room) { return kit_text_copy(table.lent().at(), room...); });
+        check(kit_rows_table(handle.lent().at(), table.at()));
+        return detail::copy_text([&](auto... room) { return kit_text_copy(table.lent().at(), room...); });
     }
 
 private:
-    decltype(Row::total) total(size_t number, const kit_row &read) const {
+    decltype(Row::total) read_total(size_t number, const kit_row &read) const {
         if (read.shape == KIT_SHAPE_GAUGE) return read.has_value ? std::optional(Newest{read.time, read.value}) : std::nullopt;
         WideSum sum{static_cast<uint64_t>(read.sum_high), read.sum_low};
         if (read.shape == KIT_SHAPE_SUM) return sum;
-        Distribution values{WideCount{read.count_high, read.count_low}, sum, buckets(number, read.buckets), {}};
+        Distribution values{WideCount{read.count_high, read.count_low}, sum, read_buckets(number, read.buckets), {}};
         if (read.has_range) values.range = Range{read.least, read.greatest};
         return values;
     }
-    std::vector<WideCount> buckets(size_t row, size_t count) const {
+    std::vector<WideCount> read_buckets(size_t row, size_t count) const {
         std::vector<kit_count> room(count + 1);
-        checked(kit_rows_buckets(handle.lent().at(), row, room.data(), count, &count));
-        std::vector<WideCount> told;
-        for (size_t bucket = 0; bucket < count; bucket++) told.push_back({room[bucket].high, room[bucket].low});
-        return told;
+        check(kit_rows_buckets(handle.lent().at(), row, room.data(), count, &count));
+        std::vector<WideCount> counts;
+        for (size_t bucket = 0; bucket < count; bucket++) counts.push_back({room[bucket].high, room[bucket].low});
+        return counts;
     }
 };
 

@@ -17,8 +17,8 @@ struct Stream {
 
 // The streams of a plan, whose numbers are those that Overflow tells, of a gateway, or of an export.
 class Streams : public Thing<kit_streams> {
-    std::string text(size_t number, uint8_t part) const {
-        return detail::text([&](auto... room) { return kit_streams_text(handle.lent().at(), number, part, room...); });
+    std::string read_text(size_t number, uint8_t part) const {
+        return detail::copy_text([&](auto... room) { return kit_streams_text(handle.lent().at(), number, part, room...); });
     }
 
 public:
@@ -26,24 +26,24 @@ public:
 
     size_t size() const {
         size_t count = 0;
-        checked(kit_streams_len(handle.lent().at(), &count));
+        check(kit_streams_len(handle.lent().at(), &count));
         return count;
     }
     // The stream of a number, from 0.
     Stream operator[](size_t number) const {
         uint8_t shape = 0;
         size_t bounds = 0;
-        checked(kit_streams_shape(handle.lent().at(), number, &shape, &bounds));
-        Stream told{text(number, 0), text(number, 1), text(number, 2), static_cast<Shape>(shape), {}};
-        told.bounds = detail::copied<std::vector<int64_t>>(bounds + 1, [&](int64_t *into, size_t room, size_t *len) {
+        check(kit_streams_shape(handle.lent().at(), number, &shape, &bounds));
+        Stream stream{read_text(number, 0), read_text(number, 1), read_text(number, 2), static_cast<Shape>(shape), {}};
+        stream.bounds = detail::copy_out<std::vector<int64_t>>(bounds + 1, [&](int64_t *into, size_t room, size_t *len) {
             return kit_streams_bounds(handle.lent().at(), number, into, room, len);
         });
-        return told;
+        return stream;
     }
     std::vector<Stream> all() const {
-        std::vector<Stream> told;
-        for (size_t number = 0; number < size(); number++) told.push_back((*this)[number]);
-        return told;
+        std::vector<Stream> streams;
+        for (size_t number = 0; number < size(); number++) streams.push_back((*this)[number]);
+        return streams;
     }
 };
 

@@ -43,12 +43,12 @@ type answerCase struct {
 func tryAnswers(t *testing.T, exporter func(string, http.Header, *http.Client) Exporter, cases []answerCase) {
 	t.Helper()
 	export := collected(t)
-	for _, it := range cases {
-		url, _ := answering(t, 200, it.body, it.late)
+	for _, test := range cases {
+		url, _ := answering(t, 200, test.body, test.late)
 		err := exporter(url, nil, nil).Export(context.Background(), export)
 		var why *NotTakenError
-		if errors.As(err, &why) != (it.wanted != nil) || it.wanted == nil && err != nil || it.wanted != nil && *why != *it.wanted {
-			t.Errorf("%.40q, %q: %v, and not %v", it.body, it.late, err, it.wanted)
+		if errors.As(err, &why) != (test.wanted != nil) || test.wanted == nil && err != nil || test.wanted != nil && *why != *test.wanted {
+			t.Errorf("%.40q, %q: %v, and not %v", test.body, test.late, err, test.wanted)
 		}
 	}
 }
@@ -84,12 +84,12 @@ func TestWhatAGatewaySaysIsLate(t *testing.T) {
 }
 
 func TestWhatNotTakenSays(t *testing.T) {
-	for wanted, it := range map[string]*NotTakenError{
+	for wanted, fault := range map[string]*NotTakenError{
 		"kotskhin: 3 points were not taken: LATE":           {Points: 3, Message: "LATE"},
 		"kotskhin: 3 points were not taken":                 {Points: 3},
 		"kotskhin: 2 exports came late, and were not taken": {Exports: 2},
 	} {
-		if found := it.Error(); found != wanted {
+		if found := fault.Error(); found != wanted {
 			t.Error(found)
 		}
 	}
@@ -124,7 +124,7 @@ func TestWhatARefusalSays(t *testing.T) {
 	status := func(message string) string {
 		return "\x08\x93\x03\x12" + string([]byte{byte(len(message))}) + message + "\x1a\x02{}"
 	}
-	for _, it := range []struct{ kind, body, wanted string }{
+	for _, test := range []struct{ kind, body, wanted string }{
 		{"text/plain", why + "\nand more\n", ": " + why}, {"text/plain", "\r\n\t" + why + "\r\n", ": " + why},
 		{"text/plain", "\x1b[31m" + why[:9] + "\x00\u0085\u202e\xff" + why[9:], ": [31m" + why}, {"text/plain", " \n", ""}, {"", "", ""},
 		{"text/plain", long, ": " + long[:1024]}, {"text/plain", long[:1023] + "é", ": " + long[:1023]},
@@ -133,12 +133,12 @@ func TestWhatARefusalSays(t *testing.T) {
 		{OTLPType, "\x12" + strings.Repeat("\xff", 9) + "\x01", ""},
 	} {
 		server := httptest.NewServer(http.HandlerFunc(func(w http.ResponseWriter, _ *http.Request) {
-			w.Header().Set("Content-Type", it.kind)
+			w.Header().Set("Content-Type", test.kind)
 			w.WriteHeader(http.StatusForbidden)
-			w.Write([]byte(it.body))
+			w.Write([]byte(test.body))
 		}))
 		err := HTTPExporter(server.URL, nil, nil).Export(ctx, collected(t))
-		is(t, fmt.Sprint(err), "the answer is 403 Forbidden"+it.wanted)
+		is(t, fmt.Sprint(err), "the answer is 403 Forbidden"+test.wanted)
 		server.Close()
 	}
 }

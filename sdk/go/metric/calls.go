@@ -45,6 +45,11 @@ func (p *MeterProvider) isReentered() bool {
 	return atomic.LoadInt32(&p.calls) > 0 && isWithin(userCalls)
 }
 
+// withoutPrefix is an error's text without the kit's name, for a line that begins with it.
+func withoutPrefix(err error) string {
+	return strings.Replace(fmt.Sprint(err), "kotskhin: ", "", 1)
+}
+
 // logLine logs a line. Where the log's own writer comes here it does nothing: it has the log's lock.
 func logLine(format string, arguments ...any) {
 	if !isWithin(logged) {

@@ -35,22 +35,22 @@ func TestSharedCasesOfNames(t *testing.T) {
 	if err := decoder.Decode(&read); err != nil || len(read.Cases) == 0 {
 		t.Fatal(len(read.Cases), err)
 	}
-	for _, it := range read.Cases {
-		it := it
-		t.Run(it.text("name"), func(t *testing.T) {
-			if strings.Contains(fmt.Sprint(it["wants"]), "wide") {
+	for _, one := range read.Cases {
+		one := one
+		t.Run(one.text("name"), func(t *testing.T) {
+			if strings.Contains(fmt.Sprint(one["wants"]), "wide") {
 				t.Skip("an int64 is no greater than 2^63 - 1")
 			}
-			performed(t, it)
+			performed(t, one)
 		})
 	}
 }
 
-func (it listed) text(name string) string { made, _ := it[name].(string); return made }
-func (it listed) truth(name string) bool  { made, _ := it[name].(bool); return made }
-func (it listed) list(name string) []any  { made, _ := it[name].([]any); return made }
-func (it listed) number(name string, otherwise int64) int64 {
-	if digits, ok := it[name].(json.Number); ok {
+func (l listed) text(name string) string { made, _ := l[name].(string); return made }
+func (l listed) truth(name string) bool  { made, _ := l[name].(bool); return made }
+func (l listed) list(name string) []any  { made, _ := l[name].([]any); return made }
+func (l listed) number(name string, otherwise int64) int64 {
+	if digits, ok := l[name].(json.Number); ok {
 		return must(digits.Int64())
 	}
 	return otherwise
@@ -63,10 +63,10 @@ func must[T any](made T, err error) T {
 	return made
 }
 
-func performed(t *testing.T, it listed) {
-	run := caseOf(it)
+func performed(t *testing.T, one listed) {
+	run := caseOf(one)
 	defer close(run.other)
-	for _, step := range it.list("steps") {
+	for _, step := range one.list("steps") {
 		step := listed(step.(map[string]any))
 		wanted := step["is"]
 		if step.text("do") == "declare" {
@@ -92,7 +92,7 @@ type caseRun struct {
 	export              *kotskhin.Export
 }
 
-func caseOf(it listed) *caseRun {
+func caseOf(given listed) *caseRun {
 	run := &caseRun{calls: map[string]func(int64, ...MeasurementOption){}, other: make(chan func())}
 	go func() {
 		runtime.LockOSThread()
@@ -100,20 +100,20 @@ func caseOf(it listed) *caseRun {
 			call()
 		}
 	}()
-	service := it.text("service")
+	service := given.text("service")
 	if service == "" {
 		service = "shop"
 	}
-	instance := fmt.Sprintf("00000000-0000-0000-0000-%012x", it.number("instance", 1))
+	instance := fmt.Sprintf("00000000-0000-0000-0000-%012x", given.number("instance", 1))
 	options := []Option{
 		WithResource(attribute.String(ServiceName, service), attribute.String(ServiceInstanceID, instance)),
-		WithOnRefused(run.told.add), WithHeldLimit(int(it.number("held", DefaultHeld))),
-		WithCardinalityLimit(uint64(it.number("limit", kotskhin.DefaultLimit))),
+		WithOnRefused(run.told.add), WithHeldLimit(int(given.number("held", DefaultHeld))),
+		WithCardinalityLimit(uint64(given.number("limit", kotskhin.DefaultLimit))),
 	}
-	for _, one := range it.list("views") {
+	for _, one := range given.list("views") {
 		options = append(options, WithView(viewOf(listed(one.(map[string]any)))))
 	}
-	if it.truth("reader") {
+	if given.truth("reader") {
 		failed := WithOnFailed(func(error) { atomic.AddInt32(&run.failures, 1) })
 		options = append(options, WithReader(NewPeriodicReader(ExporterFunc(run.bring), WithInterval(24*time.Hour), failed)))
 	}
@@ -121,18 +121,18 @@ func caseOf(it listed) *caseRun {
 	return run
 }
 
-func viewOf(it listed) kotskhin.View {
-	made := kotskhin.View{Name: it.text("name"), Rename: it.text("rename")}
-	if scope, ok := it["scope"].(string); ok {
+func viewOf(view listed) kotskhin.View {
+	made := kotskhin.View{Name: view.text("name"), Rename: view.text("rename")}
+	if scope, ok := view["scope"].(string); ok {
 		made.Scope = &scope
 	}
-	if kind, ok := kinds[it.text("kind")]; ok {
+	if kind, ok := kinds[view.text("kind")]; ok {
 		made.Kind = &kind
 	}
-	for _, key := range it.list("keep") {
+	for _, key := range view.list("keep") {
 		made.Keep = append(made.Keep, key.(string))
 	}
-	switch of := it["aggregation"].(type) {
+	switch of := view["aggregation"].(type) {
 	case string:
 		made.Aggregation = map[string]kotskhin.Aggregation{"drop": kotskhin.Drop}[of]
 	case map[string]any:
@@ -147,8 +147,8 @@ var kinds = map[string]kotskhin.Kind{
 
 func numbers(of any) []int64 {
 	var made []int64
-	for _, it := range of.([]any) {
-		made = append(made, must(it.(json.Number).Int64()))
+	for _, number := range of.([]any) {
+		made = append(made, must(number.(json.Number).Int64()))
 	}
 	return made
 }
@@ -164,21 +164,21 @@ func (run *caseRun) bring(_ context.Context, export kotskhin.Export) error {
 }
 
 // step performs a step, and gives what it answers.
-func (run *caseRun) step(it listed) any {
+func (run *caseRun) step(step listed) any {
 	return map[string]func(listed) any{
 		"declare": run.declare, "record": run.record, "collect": run.collect, "head": run.head, "streams": run.streams, "table": run.table,
 		"value": run.value, "values": run.values, "refused": run.refused, "exported": run.exported,
 		"start": func(listed) any { return answered(run.provider.Start()) },
-		"flush": func(it listed) any { return run.fails(it, run.provider.ForceFlush(ctx)) },
-		"shutdown": func(it listed) any {
-			return run.fails(it, run.provider.Shutdown(ctx))
+		"flush": func(step listed) any { return run.fails(step, run.provider.ForceFlush(ctx)) },
+		"shutdown": func(step listed) any {
+			return run.fails(step, run.provider.Shutdown(ctx))
 		},
-		"failing": func(it listed) any {
-			atomic.StoreInt32(&run.isFailing, map[bool]int32{true: 1}[it.truth("is")])
-			return it["is"]
+		"failing": func(step listed) any {
+			atomic.StoreInt32(&run.isFailing, map[bool]int32{true: 1}[step.truth("is")])
+			return step["is"]
 		},
 		"failed": func(listed) any { return atomic.LoadInt32(&run.failures) },
-	}[it.text("do")](it)
+	}[step.text("do")](step)
 }
 
 func answered(err error) any {
@@ -188,22 +188,22 @@ func answered(err error) any {
 	return nil
 }
 
-func (run *caseRun) fails(it listed, err error) any {
-	if (err != nil) != it.truth("fails") {
+func (run *caseRun) fails(step listed, err error) any {
+	if (err != nil) != step.truth("fails") {
 		return fmt.Sprint("failed: ", err)
 	}
 	return nil
 }
 
-func (run *caseRun) declare(it listed) any {
-	meter, name := run.provider.Meter(it.text("scope")), it.text("name")
-	options := []InstrumentOption{WithUnit(it.text("unit"))}
-	if bounds, ok := it["bounds"]; ok {
+func (run *caseRun) declare(step listed) any {
+	meter, name := run.provider.Meter(step.text("scope")), step.text("name")
+	options := []InstrumentOption{WithUnit(step.text("unit"))}
+	if bounds, ok := step["bounds"]; ok {
 		options = append(options, WithExplicitBucketBoundaries(numbers(bounds)...))
 	}
 	var err error
 	var call func(value int64, options ...MeasurementOption)
-	switch it.text("kind") {
+	switch step.text("kind") {
 	case "counter":
 		made, fault := meter.Int64Counter(name, options...)
 		call, err = func(value int64, at ...MeasurementOption) { made.Add(ctx, value, at...) }, fault
@@ -220,7 +220,7 @@ func (run *caseRun) declare(it listed) any {
 	if err != nil {
 		return reasonOf(err)
 	}
-	run.calls[it.text("as")] = call
+	run.calls[step.text("as")] = call
 	return nil
 }
 
@@ -241,9 +241,9 @@ func reasonOf(err error) string {
 
 func pairsOf(of []any) []attribute.KeyValue {
 	var made []attribute.KeyValue
-	for _, it := range of {
-		key := it.([]any)[0].(string)
-		switch value := it.([]any)[1].(type) {
+	for _, pair := range of {
+		key := pair.([]any)[0].(string)
+		switch value := pair.([]any)[1].(type) {
 		case bool:
 			made = append(made, attribute.Bool(key, value))
 		case json.Number:
@@ -255,21 +255,21 @@ func pairsOf(of []any) []attribute.KeyValue {
 	return made
 }
 
-func (run *caseRun) record(it listed) any {
-	call, value, at := run.calls[it.text("by")], it.number("value", 0), pairsOf(it.list("at"))
+func (run *caseRun) record(step listed) any {
+	call, value, at := run.calls[step.text("by")], step.number("value", 0), pairsOf(step.list("at"))
 	often := func() {
-		for i := int64(0); i < it.number("times", 1); i++ {
+		for i := int64(0); i < step.number("times", 1); i++ {
 			call(value, WithAttributes(at...))
 		}
 	}
 	var group sync.WaitGroup
-	for i := int64(0); i < it.number("threads", 1); i++ {
+	for i := int64(0); i < step.number("threads", 1); i++ {
 		group.Add(1)
 		thread := func() {
 			defer group.Done()
 			often()
 		}
-		if it.text("on") == "other" {
+		if step.text("on") == "other" {
 			run.other <- thread
 		} else {
 			go thread()
@@ -279,9 +279,9 @@ func (run *caseRun) record(it listed) any {
 	return nil
 }
 
-func (run *caseRun) collect(it listed) any {
+func (run *caseRun) collect(step listed) any {
 	made, err := run.provider.Collect()
-	if (err != nil) != it.truth("nothing") {
+	if (err != nil) != step.truth("nothing") {
 		return fmt.Sprint("collected: ", err)
 	}
 	run.export = &made
@@ -301,8 +301,8 @@ func (run *caseRun) gateway() kotskhin.Gateway {
 
 func (run *caseRun) streams(listed) any {
 	made := []any{}
-	for _, it := range must(must(run.gateway().Streams()).All()) {
-		made = append(made, []string{it.Scope, it.Name, it.Unit})
+	for _, stream := range must(must(run.gateway().Streams()).All()) {
+		made = append(made, []string{stream.Scope, stream.Name, stream.Unit})
 	}
 	return made
 }
@@ -320,19 +320,19 @@ func askOf(of []any) kotskhin.Ask {
 	}
 }
 
-func (run *caseRun) table(it listed) any { return must(run.gateway().Table(askOf(it.list("of")))) }
+func (run *caseRun) table(step listed) any { return must(run.gateway().Table(askOf(step.list("of")))) }
 
-func (run *caseRun) values(it listed) any {
-	rows, made := must(run.gateway().Rows(askOf(it.list("of")))), []any{}
+func (run *caseRun) values(step listed) any {
+	rows, made := must(run.gateway().Rows(askOf(step.list("of")))), []any{}
 	for _, row := range must(rows.All()) {
 		made = append(made, row.Newest.Value)
 	}
 	return made
 }
 
-func (run *caseRun) value(it listed) any { return run.values(it).([]any)[0] }
+func (run *caseRun) value(step listed) any { return run.values(step).([]any)[0] }
 
-func (run *caseRun) refused(it listed) any {
+func (run *caseRun) refused(step listed) any {
 	run.told.lock.Lock()
 	defer run.told.lock.Unlock()
 	seen, told := map[string]bool{}, []any{}
@@ -343,7 +343,7 @@ func (run *caseRun) refused(it listed) any {
 	}
 	run.told.list = nil
 	sort.Slice(told, func(i, j int) bool { return told[i].(string) < told[j].(string) })
-	if !reflect.DeepEqual(told, it.list("by")) {
+	if !reflect.DeepEqual(told, step.list("by")) {
 		return told
 	}
 	return run.provider.Refused()

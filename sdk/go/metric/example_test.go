@@ -34,7 +34,7 @@ func Example() {
 
 // What is refused is told to a hook, and found by its code.
 func ExampleWithOnRefused() {
-	provider, err := metric.NewMeterProvider(metric.WithOnRefused(func(it metric.Refusal) { fmt.Println(it) }))
+	provider, err := metric.NewMeterProvider(metric.WithOnRefused(func(refusal metric.Refusal) { fmt.Println(refusal) }))
 	if err != nil {
 		log.Fatal(err)
 	}

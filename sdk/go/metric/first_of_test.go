@@ -32,7 +32,7 @@ func TestTheNextGatewayWhereOneFails(t *testing.T) {
 	export := collected(t)
 	all := FirstOf(exporters...)
 	push := func() error { return all.Export(context.Background(), export) }
-	for turn, it := range []struct {
+	for turn, test := range []struct {
 		down  [3]int32
 		asked [3]int32
 		fails bool
@@ -42,8 +42,8 @@ func TestTheNextGatewayWhereOneFails(t *testing.T) {
 		{[3]int32{0, 0, 0}, [3]int32{2, 1, 2}, false},
 		{[3]int32{1, 1, 1}, [3]int32{3, 2, 3}, true},
 	} {
-		down = it.down
-		if err := push(); (err != nil) != it.fails || asked != it.asked {
+		down = test.down
+		if err := push(); (err != nil) != test.fails || asked != test.asked {
 			t.Fatal(turn, err, asked)
 		}
 	}

@@ -23,10 +23,10 @@ type refusals struct {
 	list []Refusal
 }
 
-func (r *refusals) add(it Refusal) {
+func (r *refusals) add(refusal Refusal) {
 	r.lock.Lock()
 	defer r.lock.Unlock()
-	r.list = append(r.list, it)
+	r.list = append(r.list, refusal)
 }
 
 func newProvider(t testing.TB, options ...Option) *MeterProvider {
@@ -56,8 +56,8 @@ func told(t testing.TB, export kotskhin.Export, ask kotskhin.Ask) string {
 	var said []string
 	for _, row := range all {
 		var pairs []string
-		for _, it := range row.Attributes {
-			pairs = append(pairs, fmt.Sprintf("%s=%v%s", it.Key, it.Value.Type(), it.Value.Emit()))
+		for _, pair := range row.Attributes {
+			pairs = append(pairs, fmt.Sprintf("%s=%v%s", pair.Key, pair.Value.Type(), pair.Value.Emit()))
 		}
 		total := fmt.Sprint(row.Total)
 		if row.Newest != nil {
@@ -134,8 +134,8 @@ func TestValuesOfAttributesAreToldApart(t *testing.T) {
 		attribute.Bool("v", true), attribute.Int("v", 1), attribute.String("v", "1"), attribute.Bool("v", false), attribute.Int("v", 0),
 	}
 	for turn := 0; turn < 3; turn++ {
-		for _, it := range values {
-			requests.Add(ctx, 1, WithAttributes(it))
+		for _, pair := range values {
+			requests.Add(ctx, 1, WithAttributes(pair))
 		}
 		requests.Add(ctx, 10, WithAttributes(attribute.Int("a", 1), attribute.Int("b", 2)))
 		requests.Add(ctx, 10, WithAttributes(attribute.Int("b", 2)), WithAttributes(attribute.Int("a", 1)))
@@ -160,9 +160,9 @@ func TestWhatIsRefusedIsCountedAndTold(t *testing.T) {
 		{1, attribute.String("a", "\xff"), kotskhin.ErrNotText},
 		{1, attribute.KeyValue{Key: "a"}, kotskhin.ErrInvalidValue},
 	}
-	for _, it := range wrong {
-		requests.Add(ctx, it.value, WithAttributes(it.pair))
-		if last := refused.list[len(refused.list)-1]; !errors.Is(last, it.err) || last.Value != it.value || last.Instrument != "requests" {
+	for _, test := range wrong {
+		requests.Add(ctx, test.value, WithAttributes(test.pair))
+		if last := refused.list[len(refused.list)-1]; !errors.Is(last, test.err) || last.Value != test.value || last.Instrument != "requests" {
 			t.Fatal(last)
 		}
 	}
@@ -172,8 +172,8 @@ func TestWhatIsRefusedIsCountedAndTold(t *testing.T) {
 	is(t, total(t, p), "{} 1")
 	// (they may lie in two shards, which have no order)
 	last := map[int64]bool{}
-	for _, it := range refused.list[4:] {
-		last[it.Value] = errors.Is(it, map[int64]kotskhin.Code{math.MaxInt64: kotskhin.ErrOverflow, -5: kotskhin.ErrNegative}[it.Value])
+	for _, refusal := range refused.list[4:] {
+		last[refusal.Value] = errors.Is(refusal, map[int64]kotskhin.Code{math.MaxInt64: kotskhin.ErrOverflow, -5: kotskhin.ErrNegative}[refusal.Value])
 	}
 	if p.Refused() != 6 || !last[math.MaxInt64] || !last[-5] {
 		t.Fatal(refused.list)

@@ -149,7 +149,7 @@ func WithAttributeSet(set attribute.Set) MeasurementOption {
 }
 
 // ErrStarted says that an instrument is declared after its provider started, which a plan does not allow.
-var ErrStarted = errors.New("the provider has started: declare all instruments before the first recording")
+var ErrStarted = errors.New("kotskhin: the provider has started: declare all instruments before the first recording")
 
 // ErrCardinalityLimit says that a stream has as many attribute sets as the limit allows, at the first set beyond it.
 var ErrCardinalityLimit = errors.New("kotskhin: CARDINALITY_LIMIT: the stream has as many attribute sets as the limit allows: further " +
@@ -169,11 +169,14 @@ type Refusal struct {
 }
 
 // Error says what was refused, and why.
-func (r Refusal) Error() string {
+func (r Refusal) Error() string { return r.describe(fmt.Sprint(r.Err)) }
+
+// describe says what was refused, before a text of why.
+func (r Refusal) describe(why string) string {
 	if r.Recordings == 0 {
-		return fmt.Sprintf("%q of %q: %v", r.Instrument, r.Scope, r.Err)
+		return fmt.Sprintf("%q of %q: %s", r.Instrument, r.Scope, why)
 	}
-	return fmt.Sprintf("a recording of %d by %q of %q is refused: %v", r.Value, r.Instrument, r.Scope, r.Err)
+	return fmt.Sprintf("a recording of %d by %q of %q is refused: %s", r.Value, r.Instrument, r.Scope, why)
 }
 
 // Unwrap is why.

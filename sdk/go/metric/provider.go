@@ -118,11 +118,11 @@ func (p *MeterProvider) addOrFind(i *instrument) (known *instrument, inapplicabl
 		}
 	}
 	if p.startedAt != "" {
-		return nil, nil, fmt.Errorf("kotskhin: the instrument %q of %q is declared at %s, after a start at %s: %w", i.name, i.scope,
+		return nil, nil, fmt.Errorf("the instrument %q of %q is declared at %s, after a start at %s: %w", i.name, i.scope,
 			caller(), p.startedAt, ErrStarted)
 	}
 	if inapplicable, err = p.prepare(i); err != nil {
-		return nil, nil, fmt.Errorf("kotskhin: the instrument %q of %q: %w", i.name, i.scope, err)
+		return nil, nil, fmt.Errorf("the instrument %q of %q: %w", i.name, i.scope, err)
 	}
 	p.instruments = append(p.instruments, i)
 	return i, inapplicable, nil
@@ -233,7 +233,7 @@ func (p *MeterProvider) tell(refusal Refusal) {
 	if p.config.onRefused != nil && !isWithin(tellHook) {
 		p.tellHook(refusal)
 	} else if !isWithin(logged) && p.isFirst(refusal) {
-		logLine("kotskhin: %v", refusal)
+		logLine("kotskhin: %s", refusal.describe(withoutPrefix(refusal.Err)))
 	}
 }
 

@@ -39,7 +39,7 @@ type ExportError struct {
 
 // Error says why.
 func (e *ExportError) Error() string {
-	return fmt.Sprintf("kotskhin: an export was not brought: %v", e.Err)
+	return "kotskhin: an export was not brought: " + withoutPrefix(e.Err)
 }
 
 // Unwrap is why.

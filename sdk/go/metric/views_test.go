@@ -114,8 +114,8 @@ func TestEachStreamTellsItsLimit(t *testing.T) {
 		}
 		total(t, p)
 		var told []string
-		for _, it := range refused.list {
-			told = append(told, fmt.Sprintf("%s %v %d", it.Instrument, errors.Is(it, ErrCardinalityLimit), it.Recordings))
+		for _, refusal := range refused.list {
+			told = append(told, fmt.Sprintf("%s %v %d", refusal.Instrument, errors.Is(refusal, ErrCardinalityLimit), refusal.Recordings))
 		}
 		refused.list = nil
 		return strings.Join(told, "; ")
@@ -128,6 +128,32 @@ func TestEachStreamTellsItsLimit(t *testing.T) {
 	if p.Refused() != 0 {
 		t.Fatal(p.Refused())
 	}
+}
+
+// A message has the kit's name once, however many reasons it passes on.
+func TestMessagesNameTheKitOnce(t *testing.T) {
+	var lines strings.Builder
+	log.SetOutput(&lines)
+	log.SetFlags(0)
+	defer func() { log.SetOutput(os.Stderr); log.SetFlags(log.LstdFlags) }()
+	p := newProvider(t)
+	lives, bad := p.Meter("app").Int64Counter("9 lives")
+	requests, _ := p.Meter("app").Int64Counter("requests")
+	requests.Add(ctx, -1)
+	lives.Add(ctx, 1)
+	_, late := p.Meter("app").Int64Counter("late")
+	said := []string{bad.Error(), late.Error(), (&ExportError{Err: &NotTakenError{Points: 3}}).Error()}
+	said = append(said, strings.Split(strings.TrimSpace(lines.String()), "\n")...)
+	if len(said) != 5 {
+		t.Fatal(said)
+	}
+	for _, text := range said {
+		if strings.Count(text, "kotskhin: ") != 1 {
+			t.Error(text)
+		}
+	}
+	is(t, said[2], "kotskhin: an export was not brought: 3 points were not taken")
+	is(t, said[3], `kotskhin: a recording of -1 by "requests" of "app" is refused: NEGATIVE: the instrument takes no value below 0`)
 }
 
 // Without a hook a view and a limit are logged once, as the first recording of each kind that is refused is.

@@ -37,8 +37,9 @@ def library(settings):
 
 def platform(made):
     """The platforms that a library runs on: those of the newest glibc whose symbols it wants."""
-    wanted = [int(it) for it in re.findall(rb"\0GLIBC_2\.(\d+)(?:\.\d+)?(?=\0)", made)]
-    others = {it.decode() for it in re.findall(rb"\0(lib[\w.+-]+\.so(?:\.\d+)*|ld-[\w.+-]+\.so\.\d+)(?=\0)", made)} - SYSTEM - {LIBRARY}
+    wanted = [int(found) for found in re.findall(rb"\0GLIBC_2\.(\d+)(?:\.\d+)?(?=\0)", made)]
+    found = re.findall(rb"\0(lib[\w.+-]+\.so(?:\.\d+)*|ld-[\w.+-]+\.so\.\d+)(?=\0)", made)
+    others = {name.decode() for name in found} - SYSTEM - {LIBRARY}
     return "linux_x86_64" if others or not wanted else f"manylinux_2_{max(wanted)}_x86_64"
 
 
@@ -66,15 +67,15 @@ def build_wheel(wheel_directory, config_settings=None, metadata_directory=None):
     made = dict(files(config_settings))
     info = f"kotskhin-{version()}.dist-info"
     tag = re.search(r"^Tag: (.*)$", made[f"{info}/WHEEL"].decode(), re.M)[1]
-    hashed = {name: base64.urlsafe_b64encode(hashlib.sha256(it).digest()).rstrip(b"=").decode() for name, it in made.items()}
-    record = [f"{name},sha256={hashed[name]},{len(it)}\n" for name, it in made.items()]
+    hashed = {name: base64.urlsafe_b64encode(hashlib.sha256(content).digest()).rstrip(b"=").decode() for name, content in made.items()}
+    record = [f"{name},sha256={hashed[name]},{len(content)}\n" for name, content in made.items()]
     made[f"{info}/RECORD"] = "".join([*record, f"{info}/RECORD,,\n"]).encode()
     name = f"kotskhin-{version()}-{tag}.whl"
     with zipfile.ZipFile(pathlib.Path(wheel_directory) / name, "w", zipfile.ZIP_DEFLATED) as wheel:
-        for place, it in made.items():
+        for place, content in made.items():
             one = zipfile.ZipInfo(place, DATE)
             one.external_attr, one.compress_type = 0o644 << 16, zipfile.ZIP_DEFLATED
-            wheel.writestr(one, it)
+            wheel.writestr(one, content)
     return name
 
 

@@ -32,8 +32,8 @@ type process struct {
 func loaded(t *testing.T, folder string) *process {
 	t.Helper()
 	words := []string{"--state", folder, "--archive", "shop"}
-	it := must[*settings.Settings](t)(settings.Read(words, func(string) string { return "" }, io.Discard))
-	r := &running{settings: it, log: logs.New(io.Discard, logs.Error, false), figures: figures.New()}
+	read := must[*settings.Settings](t)(settings.Read(words, func(string) string { return "" }, io.Discard))
+	r := &running{settings: read, log: logs.New(io.Discard, logs.Error, false), figures: figures.New()}
 	if err := r.load(); err != nil {
 		t.Fatal(err)
 	}
@@ -223,9 +223,9 @@ func TestTwoTombstonesAreAnError(t *testing.T) {
 	}
 	p.store.Close()
 	var lines bytes.Buffer
-	end, it := logging(t, &lines, "--listen", "127.0.0.1:"+port, "--state", folder), reached{t, "http://127.0.0.1:" + port}
-	until(t, "it is not ready", it.isReady)
-	if total, twice := it.total(), it.figure("adopted_twice"); total != "14" || twice != "1" {
+	end, gateway := logging(t, &lines, "--listen", "127.0.0.1:"+port, "--state", folder), reached{t, "http://127.0.0.1:" + port}
+	until(t, "it is not ready", gateway.isReady)
+	if total, twice := gateway.total(), gateway.figure("adopted_twice"); total != "14" || twice != "1" {
 		t.Fatal(total, twice)
 	}
 	if err := end(); err != nil {

@@ -107,25 +107,25 @@ func TestTwoArchivistsOfOneTemplate(t *testing.T) {
 	gateways, anew, end := alike(t, "--archive", "shop", "--archive-after", "1s", "--archive-every", often)
 	for instance := uint64(1); instance < 11; instance++ {
 		export := collected(t, instance, 200, 50, 1)
-		for _, it := range gateways {
-			it.push(export)
+		for _, gateway := range gateways {
+			gateway.push(export)
 		}
 	}
-	for _, it := range gateways {
-		until(t, "no conflict is told", func() bool { return it.figure(`archivists_conflict{service="shop"}`) == "1" })
+	for _, gateway := range gateways {
+		until(t, "no conflict is told", func() bool { return gateway.figure(`archivists_conflict{service="shop"}`) == "1" })
 	}
 	time.Sleep(3 * time.Second)
-	for _, it := range gateways {
-		conflict, adopted := it.figure(`archivists_conflict{service="shop"}`), it.figure(`adopted_total{service="shop"}`)
-		if it.total() != "500" || conflict != "1" || adopted != "" || !strings.Contains(it.peers(), `"archives":["shop"]`) {
-			t.Fatal(it.total(), conflict, adopted, it.peers())
+	for _, gateway := range gateways {
+		conflict, adopted := gateway.figure(`archivists_conflict{service="shop"}`), gateway.figure(`adopted_total{service="shop"}`)
+		if gateway.total() != "500" || conflict != "1" || adopted != "" || !strings.Contains(gateway.peers(), `"archives":["shop"]`) {
+			t.Fatal(gateway.total(), conflict, adopted, gateway.peers())
 		}
 	}
 	anew()
-	for _, it := range gateways {
-		until(t, "nothing is adopted once one alone archives", func() bool { return it.figure("held_points") == "60" })
-		if it.total() != "500" || it.figure("adopted_twice") != "0" {
-			t.Fatal(it.total(), it.figure("adopted_twice"))
+	for _, gateway := range gateways {
+		until(t, "nothing is adopted once one alone archives", func() bool { return gateway.figure("held_points") == "60" })
+		if gateway.total() != "500" || gateway.figure("adopted_twice") != "0" {
+			t.Fatal(gateway.total(), gateway.figure("adopted_twice"))
 		}
 	}
 	if conflict := gateways[0].figure(`archivists_conflict{service="shop"}`); conflict != "0" {
@@ -193,11 +193,11 @@ func TestAStoppedArchivist(t *testing.T) {
 	}
 	defer gateway.Wait()
 	defer gateway.Process.Kill()
-	it := reached{t, "http://127.0.0.1:" + port}
-	until(t, "it is not ready", it.isReady)
+	served := reached{t, "http://127.0.0.1:" + port}
+	until(t, "it is not ready", served.isReady)
 	end, workers := make(chan struct{}), []<-chan int{}
 	for instance := uint64(1); instance <= 20; instance++ {
-		workers = append(workers, pushing(t, it.url, instance, 500*time.Millisecond, end))
+		workers = append(workers, pushing(t, served.url, instance, 500*time.Millisecond, end))
 	}
 	time.Sleep(time.Second)
 	for _, stop := range []time.Duration{3300 * time.Millisecond, 5 * time.Second} {
@@ -212,10 +212,10 @@ func TestAStoppedArchivist(t *testing.T) {
 			t.Errorf("of worker %d, which lives, %d exports are late", number+1, late)
 		}
 	}
-	if adopted := it.figure(`adopted_total{service="shop"}`); adopted != "" {
+	if adopted := served.figure(`adopted_total{service="shop"}`); adopted != "" {
 		t.Error(adopted)
 	}
-	until(t, "who ended is not adopted", func() bool { return it.figure(`adopted_total{service="shop"}`) == "20" })
+	until(t, "who ended is not adopted", func() bool { return served.figure(`adopted_total{service="shop"}`) == "20" })
 }
 
 // How long nothing newer came to a pair of what has ended, and what is longer. What a test brings at once comes within that on a machine
@@ -245,8 +245,8 @@ func paired(t *testing.T) *pair {
 	for number := range made.words {
 		made.begin(number)
 	}
-	for _, it := range []reached{made.one, made.other} {
-		until(t, "it is not ready", it.isReady)
+	for _, gateway := range []reached{made.one, made.other} {
+		until(t, "it is not ready", gateway.isReady)
 	}
 	return made
 }
@@ -286,9 +286,9 @@ func TestAPeerThatVanishesFromItsName(t *testing.T) {
 	time.Sleep(longer)
 	p.are("127.0.0.1", "127.0.0.2")
 	p.names.set("back.test", "127.0.0.1")
-	for _, it := range []reached{p.one, p.other} {
-		until(t, "what was told to be taken is hidden", func() bool { return it.total() == "28" })
-		until(t, "it is not adopted once all are there", func() bool { return it.figure("held_points") == "2" && it.total() == "28" })
+	for _, gateway := range []reached{p.one, p.other} {
+		until(t, "what was told to be taken is hidden", func() bool { return gateway.total() == "28" })
+		until(t, "it is not adopted once all are there", func() bool { return gateway.figure("held_points") == "2" && gateway.total() == "28" })
 	}
 	p.end(0)
 	p.end(1)

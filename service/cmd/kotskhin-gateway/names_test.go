@@ -62,9 +62,9 @@ func (n *names) answer(asked []byte) []byte {
 	if !is {
 		made[3] |= noSuchName
 	}
-	for _, it := range addresses {
+	for _, address := range addresses {
 		made = append(made, 0xc0, head, 0, typeA, 0, 1, 0, 0, 0, 0, 0, 4)
-		made = append(made, net.ParseIP(it).To4()...)
+		made = append(made, net.ParseIP(address).To4()...)
 	}
 	return made
 }

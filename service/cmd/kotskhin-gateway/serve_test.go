@@ -96,10 +96,10 @@ func begun(t *testing.T, words ...string) func() error {
 // logging is the same, of which errors are logged.
 func logging(t *testing.T, into io.Writer, words ...string) func() error {
 	t.Helper()
-	it := must[*settings.Settings](t)(settings.Read(words, early, io.Discard))
+	read := must[*settings.Settings](t)(settings.Read(words, early, io.Discard))
 	ctx, cancel := context.WithCancel(context.Background())
 	ended := make(chan error, 1)
-	go func() { ended <- serve(ctx, it, logs.New(into, logs.Error, false)) }()
+	go func() { ended <- serve(ctx, read, logs.New(into, logs.Error, false)) }()
 	return func() error {
 		cancel()
 		return <-ended
@@ -265,8 +265,8 @@ func TestWhatIsNotThere(t *testing.T) {
 		{"--token-file", filepath.Join(room, "none")}, {"--tls-cert", filepath.Join(room, "none"), "--tls-key", filepath.Join(room, "none")},
 		{"--listen", "256.0.0.1:1"}, {"--token-file", write(t, filepath.Join(room, "bad"), []byte("short write shop\n"))},
 	} {
-		it := must[*settings.Settings](t)(settings.Read(words, func(string) string { return "" }, io.Discard))
-		if err := serve(context.Background(), it, nil); err == nil {
+		read := must[*settings.Settings](t)(settings.Read(words, func(string) string { return "" }, io.Discard))
+		if err := serve(context.Background(), read, nil); err == nil {
 			t.Error(words)
 		}
 	}

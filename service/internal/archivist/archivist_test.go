@@ -199,8 +199,8 @@ func TestAdoptionsBesideTakes(t *testing.T) {
 		r.by.Turn(context.Background())
 	}
 	total := 0
-	for _, it := range taken {
-		total += it * points
+	for _, exports := range taken {
+		total += exports * points
 	}
 	r.shows(points+workers, total)
 }

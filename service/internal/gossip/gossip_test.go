@@ -49,21 +49,21 @@ func TestEnvelopes(t *testing.T) {
 	h := opened(t, 300)
 	take(t, h, 1)
 	delta := must[[]byte](t)(h.Tell(2))
-	if it, isRead := envelopeOf(delta); !isRead || it != (envelope{kindDelta, 300, 2, 1}) {
-		t.Fatal(it, isRead)
+	if found, isRead := envelopeOf(delta); !isRead || found != (envelope{kindDelta, 300, 2, 1}) {
+		t.Fatal(found, isRead)
 	}
-	if it, isRead := envelopeOf(must[[]byte](t)(h.Encode())); !isRead || it != (envelope{kindAll, 300, 300, 0}) {
-		t.Fatal(it, isRead)
+	if found, isRead := envelopeOf(must[[]byte](t)(h.Encode())); !isRead || found != (envelope{kindAll, 300, 300, 0}) {
+		t.Fatal(found, isRead)
 	}
 	answer := must[[]byte](t)(opened(t, 2).Hand(must[kotskhin.Message](t)(kotskhin.DecodeMessage(delta))))
-	if it, isRead := envelopeOf(answer); !isRead || it != (envelope{kindAck, 2, 300, 1}) || !IsAck(answer) || IsAck(delta) {
-		t.Fatal(it, isRead)
+	if found, isRead := envelopeOf(answer); !isRead || found != (envelope{kindAck, 2, 300, 1}) || !IsAck(answer) || IsAck(delta) {
+		t.Fatal(found, isRead)
 	}
 	for _, bytes := range []string{
 		"", "KTSM", "KTSM\x02\x01", "KTSM\x02\x01\x01\x03", "KTSM\x02\x01\x01\x01\x80", "KTSK\x02\x01\x01\x02\x01",
 	} {
-		if it, isRead := envelopeOf([]byte(bytes)); isRead {
-			t.Error(bytes, it)
+		if found, isRead := envelopeOf([]byte(bytes)); isRead {
+			t.Error(bytes, found)
 		}
 	}
 }
@@ -101,19 +101,19 @@ func (o *other) begin(id uint32, process string) *held.Held {
 }
 
 func (o *other) ServeHTTP(w http.ResponseWriter, request *http.Request) {
-	it := o.now.Load().(life)
+	living := o.now.Load().(life)
 	if request.URL.Path == PeersPath {
-		json.NewEncoder(w).Encode(Who{ID: it.held.ID(), Process: it.process})
+		json.NewEncoder(w).Encode(Who{ID: living.held.ID(), Process: living.process})
 		return
 	}
 	body, _ := io.ReadAll(request.Body)
 	message, err := kotskhin.DecodeMessage(body)
-	if _, to, _, _ := message.Envelope(); err == nil && to != it.held.ID() {
+	if _, to, _, _ := message.Envelope(); err == nil && to != living.held.ID() {
 		w.Header().Set(IDHeader, "1234")
 		w.WriteHeader(http.StatusMisdirectedRequest)
 		return
 	}
-	answer, err := it.held.Hand(message)
+	answer, err := living.held.Hand(message)
 	if err != nil {
 		o.t.Error(err)
 	}
@@ -198,8 +198,8 @@ func TestOtherAnswersAreRefused(t *testing.T) {
 		ctx, end := context.WithCancel(context.Background())
 		g.Begin(ctx)
 		until(t, name, func() bool { return g.States()[0].Failed > 1 })
-		if it := g.States()[0]; it.Sent != 0 || !strings.Contains(it.Failure, "not the Ack") {
-			t.Error(name, it)
+		if state := g.States()[0]; state.Sent != 0 || !strings.Contains(state.Failure, "not the Ack") {
+			t.Error(name, state)
 		}
 		end()
 		g.Wait()

@@ -34,15 +34,15 @@ func (k *kept) remember(all []Seen) error {
 
 func sets(words ...string) map[string]bool {
 	made := map[string]bool{}
-	for _, it := range words {
-		made[it] = true
+	for _, word := range words {
+		made[word] = true
 	}
 	return made
 }
 
 func urlsOf(all []Seen) (urls []string) {
-	for _, it := range all {
-		urls = append(urls, it.URL)
+	for _, peer := range all {
+		urls = append(urls, peer.URL)
 	}
 	return urls
 }
@@ -57,7 +57,7 @@ func TestWhoWasListedIsMissed(t *testing.T) {
 			t.Fatal(err)
 		}
 	}
-	for _, it := range []struct {
+	for _, test := range []struct {
 		urls, folders map[string]bool
 		missing       []string
 	}{
@@ -66,8 +66,8 @@ func TestWhoWasListedIsMissed(t *testing.T) {
 	} {
 		// (what comes back from the disk is the same)
 		for _, it2 := range []*roster{r, newRoster(disk.all, nil)} {
-			if found := urlsOf(it2.missing(it.urls, it.folders)); !reflect.DeepEqual(found, it.missing) {
-				t.Error(it, found)
+			if found := urlsOf(it2.missing(test.urls, test.folders)); !reflect.DeepEqual(found, test.missing) {
+				t.Error(test, found)
 			}
 		}
 	}

@@ -253,13 +253,13 @@ func archived(t *testing.T, h *Held, length time.Duration) int {
 	t.Helper()
 	archive := must[kotskhin.Archive](t)(kotskhin.BeginArchive("shop", 1000))
 	ended := h.ListEnded("shop", length, h.Now())
-	if err := h.WithAlone(func(it Alone) error {
+	if err := h.WithAlone(func(alone Alone) error {
 		for _, one := range ended {
-			if err := archive.Adopt(it.Gateway, one.Service, one.Instance, one.Start); err != nil {
+			if err := archive.Adopt(alone.Gateway, one.Service, one.Instance, one.Start); err != nil {
 				return err
 			}
 		}
-		return it.Forget(must[kotskhin.Export](t)(archive.Export(1000)), ended)
+		return alone.Forget(must[kotskhin.Export](t)(archive.Export(1000)), ended)
 	}); err != nil {
 		t.Fatal(err)
 	}
@@ -350,11 +350,11 @@ func TestWhatAPeerForgotIsNotKnown(t *testing.T) {
 func adopt(t *testing.T, h *Held, archive, instance uint64) {
 	t.Helper()
 	made := must[kotskhin.Archive](t)(kotskhin.BeginArchive("shop", 1000))
-	if err := h.WithAlone(func(it Alone) error {
-		if err := made.Adopt(it.Gateway, "shop", kotskhin.Instance{Low: instance}, 100); err != nil {
+	if err := h.WithAlone(func(alone Alone) error {
+		if err := made.Adopt(alone.Gateway, "shop", kotskhin.Instance{Low: instance}, 100); err != nil {
 			return err
 		}
-		return it.Forget(must[kotskhin.Export](t)(made.Export(1000)), nil)
+		return alone.Forget(must[kotskhin.Export](t)(made.Export(1000)), nil)
 	}); err != nil {
 		t.Fatal(err)
 	}

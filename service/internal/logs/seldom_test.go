@@ -8,12 +8,12 @@ import (
 func TestWhatComesOftenIsLoggedSeldom(t *testing.T) {
 	var s Seldom
 	now := time.Now()
-	for _, it := range []struct {
+	for _, test := range []struct {
 		after  time.Duration
 		wanted int
 	}{{0, 1}, {1, 0}, {Pause - 1, 0}, {Pause, 3}, {2*Pause - 1, 0}, {3 * Pause, 2}} {
-		if count, may := s.Add(1, now.Add(it.after)); count != it.wanted || may != (it.wanted > 0) {
-			t.Fatal(it, count, may)
+		if count, may := s.Add(1, now.Add(test.after)); count != test.wanted || may != (test.wanted > 0) {
+			t.Fatal(test, count, may)
 		}
 	}
 }

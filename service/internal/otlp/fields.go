@@ -19,8 +19,8 @@ type field struct {
 	whole, content []byte
 }
 
-// number reads a number of 1 to 10 bytes.
-func number(from []byte) (value uint64, size int) {
+// readNumber reads a number of 1 to 10 bytes.
+func readNumber(from []byte) (value uint64, size int) {
 	for shift := uint(0); size < len(from) && size < 10; shift += 7 {
 		next := from[size]
 		size++
@@ -32,16 +32,16 @@ func number(from []byte) (value uint64, size int) {
 	return 0, 0
 }
 
-// first is the field that bytes begin with.
-func first(from []byte) (field, error) {
-	tag, size := number(from)
+// readField is the field that bytes begin with.
+func readField(from []byte) (field, error) {
+	tag, size := readNumber(from)
 	if size == 0 || tag>>3 == 0 || tag>>3 > 1<<29-1 {
 		return field{}, ErrMalformed
 	}
 	made, begin, length := field{number: int(tag >> 3), wire: int(tag & 7)}, size, uint64(0)
 	switch made.wire {
 	case wireNumber:
-		_, size := number(from[begin:])
+		_, size := readNumber(from[begin:])
 		if size == 0 {
 			return field{}, ErrMalformed
 		}
@@ -51,7 +51,7 @@ func first(from []byte) (field, error) {
 	case wireFour:
 		length = 4
 	case wireBytes:
-		told, size := number(from[begin:])
+		told, size := readNumber(from[begin:])
 		if size == 0 {
 			return field{}, ErrMalformed
 		}
@@ -67,28 +67,28 @@ func first(from []byte) (field, error) {
 	return made, nil
 }
 
-// each calls a function with each field of a message, in their order.
-func each(message []byte, call func(it field) error) error {
+// forEach calls a function with each field of a message, in their order.
+func forEach(message []byte, call func(f field) error) error {
 	for len(message) > 0 {
-		it, err := first(message)
+		f, err := readField(message)
 		if err == nil {
-			err = call(it)
+			err = call(f)
 		}
 		if err != nil {
 			return err
 		}
-		message = message[len(it.whole):]
+		message = message[len(f.whole):]
 	}
 	return nil
 }
 
-// messages calls a function with the content of each field of a number that has bytes.
-func messages(message []byte, number int, call func(content []byte) error) error {
-	return each(message, func(it field) error {
-		if it.number != number || it.wire != wireBytes {
+// forEachMessage calls a function with the content of each field of a number that has bytes.
+func forEachMessage(message []byte, number int, call func(content []byte) error) error {
+	return forEach(message, func(f field) error {
+		if f.number != number || f.wire != wireBytes {
 			return nil
 		}
-		return call(it.content)
+		return call(f.content)
 	})
 }
 

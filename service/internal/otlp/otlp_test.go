@@ -110,7 +110,7 @@ func TestARequestIsReadWhole(t *testing.T) {
 // What has no counterpart is left out, counted and told; the rest is read.
 func TestWhatHasNoCounterpartIsLeftOut(t *testing.T) {
 	good := metric("requests", metricSum, sum(2, whole(7)))
-	for name, it := range map[string]struct {
+	for name, test := range map[string]struct {
 		bad     []byte
 		refused int
 		why     string
@@ -124,8 +124,8 @@ func TestWhatHasNoCounterpartIsLeftOut(t *testing.T) {
 		"no data":     {appendBytes(nil, metricName, []byte("bad")), 0, "0 points: NO_DATA: "},
 		"twice":       {metric("bad", metricSum, sum(2, whole(1), whole(2))), 2, "2 points: NO_EXPORT: "},
 	} {
-		made := read(t, resource("shop", uuid, scope("app", "", it.bad, good)))
-		if made.Refused != it.refused || !strings.HasPrefix(made.Why(), it.why) || total(t, made, "requests") != "7" {
+		made := read(t, resource("shop", uuid, scope("app", "", test.bad, good)))
+		if made.Refused != test.refused || !strings.HasPrefix(made.Why(), test.why) || total(t, made, "requests") != "7" {
 			t.Errorf("%s: %d, %q, %s", name, made.Refused, made.Why(), total(t, made, "requests"))
 		}
 		made.Close()
@@ -147,7 +147,7 @@ func TestPointsAreLeftOutOneByOne(t *testing.T) {
 
 func TestResourcesAndScopesAreLeftOut(t *testing.T) {
 	good := metric("requests", metricSum, sum(2, whole(7)))
-	for name, it := range map[string]struct {
+	for name, test := range map[string]struct {
 		request []byte
 		refused int
 		why     string
@@ -157,8 +157,8 @@ func TestResourcesAndScopesAreLeftOut(t *testing.T) {
 		"no uuid":     {resource("till", "7", scope("app", "", good)), 1, "NOT_UUID"},
 		"two metrics": {resource("till", uuid, scope("app", "", good, good)), 2, "NO_EXPORT"},
 	} {
-		made := read(t, append(it.request, resource("shop", uuid, scope("app", "", good))...))
-		if made.Refused != it.refused || !strings.Contains(made.Why(), it.why) || len(made.Exports) != 1 || total(t, made, "requests") != "7" {
+		made := read(t, append(test.request, resource("shop", uuid, scope("app", "", good))...))
+		if made.Refused != test.refused || !strings.Contains(made.Why(), test.why) || len(made.Exports) != 1 || total(t, made, "requests") != "7" {
 			t.Errorf("%s: %d, %q, %s", name, made.Refused, made.Why(), total(t, made, "requests"))
 		}
 		made.Close()
@@ -186,7 +186,7 @@ func TestOtherBytesAreNoRequest(t *testing.T) {
 func TestLongTextsAreLeftOut(t *testing.T) {
 	long, good := strings.Repeat("a", 1025), metric("requests", metricSum, sum(2, whole(7)))
 	named := func(name string) []byte { return metric(name, metricSum, sum(2, whole(1))) }
-	for name, it := range map[string]struct {
+	for name, test := range map[string]struct {
 		request []byte
 		refused int
 	}{
@@ -195,9 +195,9 @@ func TestLongTextsAreLeftOut(t *testing.T) {
 		"service": {append(resource(long, uuid, scope("app", "", named("m"))), resource("shop", uuid, scope("app", "", good))...), 1},
 		"none":    {resource("shop", uuid, scope("app", "", named(long[1:]), good)), 0},
 	} {
-		made := read(t, it.request)
-		isTold := strings.Contains(made.Why(), "TOO_LONG_TEXT") == (it.refused > 0)
-		if made.Refused != it.refused || !isTold || total(t, made, "requests") != "7" {
+		made := read(t, test.request)
+		isTold := strings.Contains(made.Why(), "TOO_LONG_TEXT") == (test.refused > 0)
+		if made.Refused != test.refused || !isTold || total(t, made, "requests") != "7" {
 			t.Errorf("%s: %d, %q, %s", name, made.Refused, made.Why(), total(t, made, "requests"))
 		}
 		made.Close()
@@ -249,7 +249,7 @@ func TestExportsComeBackByTheirParts(t *testing.T) {
 		t.Fatal(err)
 	}
 	parts := &Read{}
-	if err := messages(request, requestResources, parts.addResource); err != nil || parts.Refused != 0 || len(parts.Exports) != 1 {
+	if err := forEachMessage(request, requestResources, parts.addResource); err != nil || parts.Refused != 0 || len(parts.Exports) != 1 {
 		t.Fatal(err, parts)
 	}
 	wanted, _ := export.Encode()

@@ -23,7 +23,7 @@ func ofScope(scope []byte) []byte {
 
 // scope is a scope without what is refused of it; nil where nothing is left, as of one whose own texts are too long.
 func (r *Read) scope(scope []byte) (kept []byte, err error) {
-	code, err := probedHead(scope)
+	code, err := probeHead(scope)
 	if err != nil {
 		return nil, err
 	}
@@ -32,12 +32,12 @@ func (r *Read) scope(scope []byte) (kept []byte, err error) {
 		r.refuse(points, code)
 		return nil, err
 	}
-	err = each(scope, func(it field) error {
-		if it.number != scopeMetrics || it.wire != wireBytes {
-			kept = append(kept, it.whole...)
+	err = forEach(scope, func(f field) error {
+		if f.number != scopeMetrics || f.wire != wireBytes {
+			kept = append(kept, f.whole...)
 			return nil
 		}
-		metric, err := r.metric(it.content)
+		metric, err := r.metric(f.content)
 		if metric != nil {
 			kept = appendBytes(kept, scopeMetrics, metric)
 		}
@@ -46,23 +46,23 @@ func (r *Read) scope(scope []byte) (kept []byte, err error) {
 	return kept, err
 }
 
-// probedHead is the code by which the kit refuses a scope of no metrics; 0 where it does not.
-func probedHead(scope []byte) (kotskhin.Code, error) {
+// probeHead is the code by which the kit refuses a scope of no metrics; 0 where it does not.
+func probeHead(scope []byte) (kotskhin.Code, error) {
 	var head []byte
-	if err := each(scope, func(it field) error {
-		if it.number != scopeMetrics {
-			head = append(head, it.whole...)
+	if err := forEach(scope, func(f field) error {
+		if f.number != scopeMetrics {
+			head = append(head, f.whole...)
 		}
 		return nil
 	}); err != nil {
 		return 0, err
 	}
-	return probed(ofScope(head))
+	return probe(ofScope(head))
 }
 
 // metric is a metric without the points that are refused; nil where nothing is left of it.
 func (r *Read) metric(metric []byte) ([]byte, error) {
-	code, err := probed(alone(metric))
+	code, err := probe(alone(metric))
 	if code == 0 || err != nil {
 		return metric, err
 	}
@@ -77,14 +77,14 @@ func (r *Read) metric(metric []byte) ([]byte, error) {
 // points is a metric with those of its points that the kit takes one by one.
 func (r *Read) points(metric []byte) (kept []byte, err error) {
 	left := 0
-	err = each(metric, func(it field) error {
-		if !isData(it) {
-			kept = append(kept, it.whole...)
+	err = forEach(metric, func(f field) error {
+		if !isData(f) {
+			kept = append(kept, f.whole...)
 			return nil
 		}
-		content, count, err := r.data(it)
+		content, count, err := r.data(f)
 		left += count
-		kept = appendBytes(kept, it.number, content)
+		kept = appendBytes(kept, f.number, content)
 		return err
 	})
 	if left == 0 {
@@ -96,21 +96,21 @@ func (r *Read) points(metric []byte) (kept []byte, err error) {
 // data is the data of a metric with the points that are left of it, and their number.
 func (r *Read) data(data field) (kept []byte, left int, err error) {
 	var kind []byte
-	if err := each(data.content, func(it field) error {
-		if it.number != dataPoints {
-			kept = append(kept, it.whole...)
+	if err := forEach(data.content, func(f field) error {
+		if f.number != dataPoints {
+			kept = append(kept, f.whole...)
 		}
 		// (a field that is not known could be long, and would stand before each point)
-		if it.wire == wireNumber && len(kind) < 16 {
-			kind = append(kind, it.whole...)
+		if f.wire == wireNumber && len(kind) < 16 {
+			kind = append(kind, f.whole...)
 		}
 		return nil
 	}); err != nil {
 		return nil, 0, err
 	}
-	err = messages(data.content, dataPoints, func(point []byte) error {
+	err = forEachMessage(data.content, dataPoints, func(point []byte) error {
 		content := appendBytes(append([]byte{}, kind...), dataPoints, point)
-		code, err := probed(alone(appendBytes(appendBytes(nil, metricName, []byte("m")), data.number, content)))
+		code, err := probe(alone(appendBytes(appendBytes(nil, metricName, []byte("m")), data.number, content)))
 		if err != nil {
 			return err
 		}

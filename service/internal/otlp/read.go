@@ -73,7 +73,7 @@ func Of(request []byte) (*Read, error) {
 		return nil, err
 	}
 	made := &Read{}
-	if err := messages(request, requestResources, made.addResource); err != nil {
+	if err := forEachMessage(request, requestResources, made.addResource); err != nil {
 		made.Close()
 		return nil, err
 	}
@@ -90,8 +90,8 @@ func noCounterpart(err error) (kotskhin.Code, bool) {
 	return why.Code, isLimit || why.Code >= kotskhin.ErrNoService && why.Code <= kotskhin.ErrNoExport
 }
 
-// probed is the code by which the kit refuses a request; 0 where it does not.
-func probed(request []byte) (kotskhin.Code, error) {
+// probe is the code by which the kit refuses a request; 0 where it does not.
+func probe(request []byte) (kotskhin.Code, error) {
 	exports, err := kotskhin.ExportsOfOTLP(request)
 	(&Read{Exports: exports}).Close()
 	if code, is := noCounterpart(err); is {
@@ -103,20 +103,20 @@ func probed(request []byte) (kotskhin.Code, error) {
 // addResource reads a resource without what is refused of it.
 func (r *Read) addResource(resource []byte) error {
 	var head []byte
-	if err := each(resource, func(it field) error {
-		if it.number != resourceScopes {
-			head = append(head, it.whole...)
+	if err := forEach(resource, func(f field) error {
+		if f.number != resourceScopes {
+			head = append(head, f.whole...)
 		}
 		return nil
 	}); err != nil {
 		return err
 	}
 	r.service = serviceOf(head)
-	if code, err := probed(appendBytes(nil, requestResources, head)); code != 0 || err != nil {
+	if code, err := probe(appendBytes(nil, requestResources, head)); code != 0 || err != nil {
 		return r.refuseAll(resource, code, err)
 	}
 	var scopes [][]byte
-	if err := messages(resource, resourceScopes, func(scope []byte) error {
+	if err := forEachMessage(resource, resourceScopes, func(scope []byte) error {
 		kept, err := r.scope(scope)
 		if kept != nil {
 			scopes = append(scopes, kept)

@@ -21,24 +21,24 @@ const (
 )
 
 // Of a metric the fields from its gauge to its summary have its points.
-func isData(it field) bool {
-	return it.wire == wireBytes && it.number >= metricGauge && it.number <= metricSummary
+func isData(f field) bool {
+	return f.wire == wireBytes && f.number >= metricGauge && f.number <= metricSummary
 }
 
 // pointsOf tells how many points a metric has.
 func pointsOf(metric []byte) (count int, err error) {
-	err = each(metric, func(it field) error {
-		if !isData(it) {
+	err = forEach(metric, func(f field) error {
+		if !isData(f) {
 			return nil
 		}
-		return messages(it.content, dataPoints, func([]byte) error { count++; return nil })
+		return forEachMessage(f.content, dataPoints, func([]byte) error { count++; return nil })
 	})
 	return count, err
 }
 
 // pointsIn tells how many points the metrics of a scope have.
 func pointsIn(scope []byte) (count int, err error) {
-	err = messages(scope, scopeMetrics, func(metric []byte) error {
+	err = forEachMessage(scope, scopeMetrics, func(metric []byte) error {
 		points, err := pointsOf(metric)
 		count += points
 		return err
@@ -48,7 +48,7 @@ func pointsIn(scope []byte) (count int, err error) {
 
 // pointsUnder tells how many points the scopes of a resource have.
 func pointsUnder(resource []byte) (count int, err error) {
-	err = messages(resource, resourceScopes, func(scope []byte) error {
+	err = forEachMessage(resource, resourceScopes, func(scope []byte) error {
 		points, err := pointsIn(scope)
 		count += points
 		return err
@@ -59,8 +59,8 @@ func pointsUnder(resource []byte) (count int, err error) {
 // serviceOf is the name of a resource's service; nothing where it says none. It is for who reads a log, so bytes that are refused elsewhere
 // say nothing here.
 func serviceOf(resource []byte) (name string) {
-	_ = messages(resource, resourceHead, func(head []byte) error {
-		return messages(head, headAttributes, func(pair []byte) error {
+	_ = forEachMessage(resource, resourceHead, func(head []byte) error {
+		return forEachMessage(head, headAttributes, func(pair []byte) error {
 			if key, value := textsOf(pair); key == "service.name" && name == "" {
 				name = value
 			}
@@ -72,12 +72,12 @@ func serviceOf(resource []byte) (name string) {
 
 // textsOf are the key of an attribute, and its value where that is a text.
 func textsOf(pair []byte) (key, value string) {
-	_ = each(pair, func(it field) error {
+	_ = forEach(pair, func(f field) error {
 		switch {
-		case it.wire == wireBytes && it.number == pairKey:
-			key = string(it.content)
-		case it.wire == wireBytes && it.number == pairValue:
-			_ = messages(it.content, valueText, func(text []byte) error { value = string(text); return nil })
+		case f.wire == wireBytes && f.number == pairKey:
+			key = string(f.content)
+		case f.wire == wireBytes && f.number == pairValue:
+			_ = forEachMessage(f.content, valueText, func(text []byte) error { value = string(text); return nil })
 		}
 		return nil
 	})

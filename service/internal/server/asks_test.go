@@ -32,7 +32,7 @@ func TestWordsForShapes(t *testing.T) {
 	} {
 		values := must[url.Values](t)(url.ParseQuery("name=requests&" + query))
 		found, err := findStream(several(), values)
-		if it := several()[wanted]; err != nil || found.Shape != it.Shape || boundsOf(found) != boundsOf(it) {
+		if stream := several()[wanted]; err != nil || found.Shape != stream.Shape || boundsOf(found) != boundsOf(stream) {
 			t.Errorf("%s: %v, %v", query, found, err)
 		}
 	}
@@ -48,7 +48,7 @@ func TestWhatIsNoAsk(t *testing.T) {
 	if status, said, _ := got(t, http.MethodPost, at+"/v1/exports", encoded(t, "shop", 1, 3)); status != 200 {
 		t.Fatal(status, said)
 	}
-	for query, it := range map[string]struct {
+	for query, test := range map[string]struct {
 		status int
 		says   string
 	}{
@@ -74,7 +74,7 @@ func TestWhatIsNoAsk(t *testing.T) {
 	} {
 		for _, path := range []string{"/v1/table?", "/v1/rows?"} {
 			status, said, _ := got(t, http.MethodGet, at+path+query, nil)
-			if status != it.status || !strings.Contains(said, it.says) {
+			if status != test.status || !strings.Contains(said, test.says) {
 				t.Errorf("%s%s: %d %s", path, query, status, said)
 			}
 		}

@@ -74,7 +74,7 @@ func TestAdoptionByHTTP(t *testing.T) {
 		t.Fatal(adopted)
 	}
 	late, live := encoded(t, "shop", 3, 9), encoded(t, "shop", 6, 1)
-	for _, it := range []struct {
+	for _, test := range []struct {
 		body             []byte
 		kind, said, late string
 	}{
@@ -82,8 +82,8 @@ func TestAdoptionByHTTP(t *testing.T) {
 		{framed(live, late), ExportsType, `{"exports":2,"points":2,"late":1}`, "1"},
 		{framed(late, late), ExportsType, `{"exports":2,"points":1,"late":2}`, "2"},
 	} {
-		status, said, head := got(t, http.MethodPost, url+"/v1/exports", it.body, "Content-Type", it.kind)
-		if status != 200 || said != it.said+"\n" || head.Get("Kotskhin-Late") != it.late {
+		status, said, head := got(t, http.MethodPost, url+"/v1/exports", test.body, "Content-Type", test.kind)
+		if status != 200 || said != test.said+"\n" || head.Get("Kotskhin-Late") != test.late {
 			t.Fatal(status, said, head)
 		}
 	}
@@ -160,13 +160,13 @@ func TestSendersBringNoTombstones(t *testing.T) {
 		t.Fatal(status, said)
 	}
 	bytes, request := must[[]byte](t)(bad.Encode()), must[[]byte](t)(bad.OTLP())
-	for _, it := range []struct {
+	for _, test := range []struct {
 		path, kind string
 		body       []byte
 	}{{"/v1/exports", "", bytes}, {"/v1/exports", ExportsType, framed(good, bytes)}, {"/v1/metrics", otlp.Type, request}} {
-		status, said, _ := got(t, http.MethodPost, url+it.path, it.body, "Content-Type", it.kind)
+		status, said, _ := got(t, http.MethodPost, url+test.path, test.body, "Content-Type", test.kind)
 		if status != 403 || !strings.Contains(said, "kotskhin.archive") {
-			t.Error(it.path, status, said)
+			t.Error(test.path, status, said)
 		}
 	}
 	if refused := row(t, url, `kotskhin_gateway_refused_total{path="/v1/exports",reason="reserved"}`); refused != "2" {
@@ -203,7 +203,7 @@ func TestPeersNameTheirServicesAlone(t *testing.T) {
 	}
 	s, url := served(t, 1, func(s *Server) { s.Tokens = must[*tokens.File](t)(tokens.Open(file)) })
 	forgedMessage, archiveMessage := messageOf(t, forged(t), s.Held.ID()), messageOf(t, archive(t), s.Held.ID())
-	for _, it := range []struct {
+	for _, test := range []struct {
 		token   string
 		message []byte
 		status  int
@@ -211,9 +211,9 @@ func TestPeersNameTheirServicesAlone(t *testing.T) {
 		{"lame-0123456789abcdef", forgedMessage, 403}, {"lame-0123456789abcdef", archiveMessage, 403},
 		{"peer-0123456789abcdef", archiveMessage, 200}, {"peer-0123456789abcdef", forgedMessage, 200},
 	} {
-		status, said, _ := got(t, http.MethodPost, url+"/v1/messages", it.message, "Authorization", "Bearer "+it.token)
-		if status != it.status || status == 403 && !strings.Contains(said, "service shop") {
-			t.Error(it.token, status, said)
+		status, said, _ := got(t, http.MethodPost, url+"/v1/messages", test.message, "Authorization", "Bearer "+test.token)
+		if status != test.status || status == 403 && !strings.Contains(said, "service shop") {
+			t.Error(test.token, status, said)
 		}
 	}
 }

@@ -109,7 +109,7 @@ func framed(parts ...[]byte) (made []byte) {
 
 func TestExportsAreTakenAndShown(t *testing.T) {
 	_, url := served(t, 1, nil)
-	for _, it := range []struct {
+	for _, test := range []struct {
 		body  []byte
 		heads []string
 		says  string
@@ -118,8 +118,8 @@ func TestExportsAreTakenAndShown(t *testing.T) {
 		{zipped(encoded(t, "shop", 2, 4)), []string{"Content-Encoding", "gzip"}, `{"exports":1,"points":1}`},
 		{framed(encoded(t, "till", 3, 5), encoded(t, "till", 4, 6)), []string{"Content-Type", ExportsType}, `{"exports":2,"points":2}`},
 	} {
-		status, said, _ := got(t, http.MethodPost, url+"/v1/exports", it.body, it.heads...)
-		if status != 200 || strings.TrimSpace(said) != it.says {
+		status, said, _ := got(t, http.MethodPost, url+"/v1/exports", test.body, test.heads...)
+		if status != 200 || strings.TrimSpace(said) != test.says {
 			t.Fatal(status, said)
 		}
 	}
@@ -177,7 +177,7 @@ func TestRefusals(t *testing.T) {
 	}
 	message, misdirected := must[[]byte](t)(other.Tell(1)), must[[]byte](t)(other.Tell(3))
 	answer := must[[]byte](t)(s.Held.Hand(must[kotskhin.Message](t)(kotskhin.DecodeMessage(must[[]byte](t)(opened(t, 3).Tell(1))))))
-	for name, it := range map[string]struct {
+	for name, test := range map[string]struct {
 		path, token string
 		body        []byte
 		heads       []string
@@ -207,8 +207,8 @@ func TestRefusals(t *testing.T) {
 		"nothing there":     {"/v2/exports", shop, good, nil, 404},
 		"another method":    {"/v1/table", shop, good, nil, 405},
 	} {
-		status, said, head := got(t, http.MethodPost, url+it.path, it.body, append(it.heads, "Authorization", it.token)...)
-		if status != it.status || said == "" || head.Get(gossip.IDHeader) != "1" {
+		status, said, head := got(t, http.MethodPost, url+test.path, test.body, append(test.heads, "Authorization", test.token)...)
+		if status != test.status || said == "" || head.Get(gossip.IDHeader) != "1" {
 			t.Errorf("%s: %d %q", name, status, said)
 		}
 	}
@@ -260,7 +260,7 @@ func TestWhoMayNameAPeerAsGone(t *testing.T) {
 		s.Gossip.Known = []gossip.Seen{{URL: "http://10.0.0.7:9464", Folder: "f"}, {URL: "http://10.0.0.8:9464"}}
 	})
 	const shop, peer, lame = "Bearer shop-0123456789abcdef", "Bearer peer-0123456789abcdef", "Bearer lame-0123456789abcdef"
-	for _, it := range []struct {
+	for _, test := range []struct {
 		token, query string
 		status, left int
 	}{
@@ -268,9 +268,9 @@ func TestWhoMayNameAPeerAsGone(t *testing.T) {
 		{peer, "", 400, 2}, {peer, "?peer=", 400, 2}, {peer, "?peer=10.0.0.9:9464", 404, 2}, {peer, "?peer=10.0.0.7:9464", 200, 1},
 		{peer, "?peer=10.0.0.7:9464", 404, 1}, {peer, "?peer=http://10.0.0.8:9464/", 200, 0},
 	} {
-		status, said, _ := got(t, http.MethodPost, url+gossip.GonePath+it.query, nil, "Authorization", it.token)
-		if status != it.status || len(s.Gossip.Apart()) != it.left {
-			t.Errorf("%v: %d %s %v", it, status, said, s.Gossip.Apart())
+		status, said, _ := got(t, http.MethodPost, url+gossip.GonePath+test.query, nil, "Authorization", test.token)
+		if status != test.status || len(s.Gossip.Apart()) != test.left {
+			t.Errorf("%v: %d %s %v", test, status, said, s.Gossip.Apart())
 		}
 	}
 }

@@ -192,8 +192,8 @@ func TestGoroutinesKeepAtOnce(t *testing.T) {
 			lock.Lock()
 			defer lock.Unlock()
 			var all []string
-			for it := range taken {
-				all = append(all, it)
+			for item := range taken {
+				all = append(all, item)
 			}
 			return []byte(strings.Join(all, " ")), nil
 		}); err != nil {
@@ -204,8 +204,8 @@ func TestGoroutinesKeepAtOnce(t *testing.T) {
 	s.lock.Close()
 	_, state, kept := loaded(t, folder)
 	found := map[string]bool{}
-	for _, it := range append(strings.Fields(state), kept...) {
-		found[it] = true
+	for _, item := range append(strings.Fields(state), kept...) {
+		found[item] = true
 	}
 	if len(found) != 400 {
 		t.Fatal(len(found))

@@ -31,7 +31,7 @@ func TestRights(t *testing.T) {
 	if tokens.PeerToken() != "peer-0123456789abcdef" {
 		t.Fatal(tokens.PeerToken())
 	}
-	for _, it := range []struct {
+	for _, test := range []struct {
 		header  string
 		right   Right
 		service string
@@ -52,9 +52,9 @@ func TestRights(t *testing.T) {
 		{"Bearer both-0123456789abcdef", Write, "till", nil, true},
 		{"Bearer both-0123456789abcdef", Read, "", nil, false},
 	} {
-		grant, err := tokens.Of(asked(it.header), it.right)
-		if !errors.Is(err, it.err) || it.err == nil && err != nil || grant.Allows(it.service) != it.allows {
-			t.Errorf("%+v: %v, %v", it, err, grant.Allows(it.service))
+		grant, err := tokens.Of(asked(test.header), test.right)
+		if !errors.Is(err, test.err) || test.err == nil && err != nil || grant.Allows(test.service) != test.allows {
+			t.Errorf("%+v: %v, %v", test, err, grant.Allows(test.service))
 		}
 	}
 }

@@ -63,7 +63,7 @@ static std::string text(const Json &of) {
 static Json written_out(const Json &of) {
     if (of.find("repeat")) return Json::of(text(of));
     Json made = of;
-    for (auto &it : made.list) it = written_out(it);
+    for (auto &item : made.list) item = written_out(item);
     for (auto &[key, value] : made.fields) value = written_out(value);
     return made;
 }
@@ -76,19 +76,19 @@ static OwnedValue owned(const Json &of) {
 
 static std::vector<std::pair<std::string, OwnedValue>> pairs(const Json &of) {
     std::vector<std::pair<std::string, OwnedValue>> made;
-    for (auto &it : of.list) made.emplace_back(text(it.list[0]), owned(it.list[1]));
+    for (auto &pair : of.list) made.emplace_back(text(pair.list[0]), owned(pair.list[1]));
     return made;
 }
 
 static std::vector<std::string> texts(const Json &of) {
     std::vector<std::string> made;
-    for (auto &it : of.list) made.push_back(text(it));
+    for (auto &item : of.list) made.push_back(text(item));
     return made;
 }
 
 static std::vector<int64_t> bounds(const Json &of) {
     std::vector<int64_t> made;
-    for (auto &it : of.list) made.push_back(number<Value>(it).value);
+    for (auto &item : of.list) made.push_back(number<Value>(item).value);
     return made;
 }
 
@@ -104,70 +104,71 @@ static View view(const Json &of) {
         {"default", Aggregation::AsKind}, {"sum", Aggregation::Sum}, {"last", Aggregation::LastValue}, {"drop", Aggregation::Drop}};
     auto name = of.find("name");
     View made = name ? View::of_name(text(*name)) : View::of_every();
-    if (auto it = of.find("kind")) made.kind(kind(*it));
-    if (auto it = of.find("scope")) made.scope(text(*it));
-    if (auto it = of.find("rename")) made.rename(text(*it));
-    if (auto it = of.find("keep")) made.keep(texts(*it));
-    if (auto it = of.find("aggregation")) {
-        if (auto buckets = it->find("buckets")) made.buckets(bounds(*buckets));
-        else if (it->is == Is::Number) made.aggregate(std::stoi(it->text));
-        else made.aggregate(words.at(it->text));
+    if (auto word = of.find("kind")) made.kind(kind(*word));
+    if (auto word = of.find("scope")) made.scope(text(*word));
+    if (auto word = of.find("rename")) made.rename(text(*word));
+    if (auto words = of.find("keep")) made.keep(texts(*words));
+    if (auto word = of.find("aggregation")) {
+        if (auto buckets = word->find("buckets")) made.buckets(bounds(*buckets));
+        else if (word->is == Is::Number) made.aggregate(std::stoi(word->text));
+        else made.aggregate(words.at(word->text));
     }
     return made;
 }
 
 // Answers, as the list writes them.
-static Json told(const std::string &text) { return Json::of(text); }
-static Json told(bool truth) { return Json::of(truth); }
+static Json to_json(const std::string &text) { return Json::of(text); }
+static Json to_json(bool truth) { return Json::of(truth); }
 template <typename Number, typename = std::enable_if_t<std::is_integral_v<Number> && !std::is_same_v<Number, bool>>>
-static Json told(Number number) {
+static Json to_json(Number number) {
     return Json::number(std::to_string(number));
 }
-static Json told(const WideSum &it) { return Json::number(it.text()); }
-static Json told(const WideCount &it) { return Json::number(it.text()); }
-static Json told(const OwnedPairs &pairs) {
+static Json to_json(const WideSum &sum) { return Json::number(sum.text()); }
+static Json to_json(const WideCount &count) { return Json::number(count.text()); }
+static Json to_json(const OwnedPairs &pairs) {
     std::vector<Json> made;
-    for (auto &[key, value] : pairs) made.push_back(Json::of({told(key), std::visit([](auto &it) { return told(it); }, value)}));
+    for (auto &[key, value] : pairs)
+        made.push_back(Json::of({to_json(key), std::visit([](auto &owned) { return to_json(owned); }, value)}));
     return Json::of(made);
 }
-static Json told(const Stream &it);
-static Json told(const Incarnation &it);
-static Json told(const Row &row);
+static Json to_json(const Stream &stream);
+static Json to_json(const Incarnation &incarnation);
+static Json to_json(const Row &row);
 template <typename Item>
-static Json told(const std::vector<Item> &list) {
+static Json to_json(const std::vector<Item> &list) {
     std::vector<Json> made;
-    for (auto &it : list) made.push_back(told(it));
+    for (auto &item : list) made.push_back(to_json(item));
     return Json::of(made);
 }
-static Json told(const Instance &it) {
-    WideCount wide{it.high, it.low};
+static Json to_json(const Instance &instance) {
+    WideCount wide{instance.high, instance.low};
     return Json::number(wide.text());
 }
-static Json told(const Stream &it) {
+static Json to_json(const Stream &stream) {
     static const char *const words[] = {"monotonic sum", "sum", "gauge"};
     Json shape;
-    if (it.shape == Shape::Histogram) shape.with("bounds", told(it.bounds));
-    else shape = told(std::string(words[static_cast<int>(it.shape)]));
-    return Json::of({told(it.scope), told(it.name), told(it.unit), shape});
+    if (stream.shape == Shape::Histogram) shape.with("bounds", to_json(stream.bounds));
+    else shape = to_json(std::string(words[static_cast<int>(stream.shape)]));
+    return Json::of({to_json(stream.scope), to_json(stream.name), to_json(stream.unit), shape});
 }
-static Json told(const Incarnation &it) {
+static Json to_json(const Incarnation &incarnation) {
     return Json()
-        .with("service", told(it.service))
-        .with("instance", told(it.instance))
-        .with("start", told(it.start))
-        .with("newest", told(it.newest))
-        .with("points", told(it.points));
+        .with("service", to_json(incarnation.service))
+        .with("instance", to_json(incarnation.instance))
+        .with("start", to_json(incarnation.start))
+        .with("newest", to_json(incarnation.newest))
+        .with("points", to_json(incarnation.points));
 }
-static Json told(const Row &row) {
+static Json to_json(const Row &row) {
     Json made;
-    made.with("attributes", told(row.attributes)).with("points", told(row.points)).with("conflicts", told(row.conflicts));
+    made.with("attributes", to_json(row.attributes)).with("points", to_json(row.points)).with("conflicts", to_json(row.conflicts));
     if (auto sum = std::get_if<WideSum>(&row.total)) {
-        made.with("total", told(*sum));
+        made.with("total", to_json(*sum));
     } else if (auto all = std::get_if<Distribution>(&row.total)) {
-        made.with("count", told(all->count)).with("total", told(all->sum)).with("buckets", told(all->buckets));
-        if (all->range) made.with("least", told(all->range->least)).with("greatest", told(all->range->greatest));
+        made.with("count", to_json(all->count)).with("total", to_json(all->sum)).with("buckets", to_json(all->buckets));
+        if (all->range) made.with("least", to_json(all->range->least)).with("greatest", to_json(all->range->greatest));
     } else if (auto &newest = std::get<std::optional<Newest>>(row.total)) {
-        made.with("time", told(newest->time)).with("value", told(newest->value));
+        made.with("time", to_json(newest->time)).with("value", to_json(newest->value));
     }
     return made;
 }
@@ -205,18 +206,18 @@ class Run {
     Ask ask(const Json &of) {
         auto made = [&] {
             if (auto number = of.find("stream")) {
-                auto streams = by<Plan, Gateway>(of["streams_of"], [](auto &it) { return it.streams(); });
+                auto streams = by<Plan, Gateway>(of["streams_of"], [](auto &thing) { return thing.streams(); });
                 return Ask::stream(streams, ::number<Index>(*number));
             }
             std::string scope = text(of["scope"]), name = text(of["name"]), unit = text(of["unit"]);
             auto &shape = of["shape"];
-            if (auto it = shape.find("bounds")) return Ask::histogram(scope, name, unit, bounds(*it));
+            if (auto given = shape.find("bounds")) return Ask::histogram(scope, name, unit, bounds(*given));
             if (shape.text == "gauge") return Ask::gauge(scope, name, unit);
             return Ask::sum(scope, name, unit, shape.text == "monotonic sum");
         }();
-        if (auto it = of.find("service")) made.service(text(*it));
-        if (auto it = of.find("only")) made.only(Pairs(pairs(*it)));
-        if (auto it = of.find("keep")) made.keep(texts(*it));
+        if (auto given = of.find("service")) made.service(text(*given));
+        if (auto given = of.find("only")) made.only(Pairs(pairs(*given)));
+        if (auto given = of.find("keep")) made.keep(texts(*given));
         return made;
     }
     std::string bytes(const Json &of) { return of.is == Is::Text ? the<std::string>(of) : unhexed(of["hex"].text); }
@@ -225,27 +226,28 @@ class Run {
         Rows rows = the<Gateway>(step["of"]).rows(ask(step["ask"]));
         size_t row = number<Index>(step["row"]);
         // (numbers and buckets of a row come together here)
-        return step["call"].text == "attributes" ? told(rows.attributes(row)) : told(rows.row(row));
+        return step["call"].text == "attributes" ? to_json(rows.attributes(row)) : to_json(rows.row(row));
     }
 
     Json taken_in(const Json &step) {
         auto most = step.find("most");
         auto &recorder = the<Recorder>(step["recorder"]);
-        Taken taken = by<Writer, Seat>(step["by"],
-                                       [&](auto &it) { return most ? it.take_in(recorder, number<Index>(*most)) : it.take_in(recorder); });
+        Taken taken = by<Writer, Seat>(
+            step["by"], [&](auto &thing) { return most ? thing.take_in(recorder, number<Index>(*most)) : thing.take_in(recorder); });
         Json made;
-        made.with("recorded", told(taken.recorded)).with("refused", told(taken.refused));
-        if (taken.code != KIT_OK) made.with("first", told(taken.first)).with("code", told(std::string(kit_code_name(taken.code) + 4)));
-        if (places_of(taken.code)) made.with("place", told(taken.place));
+        made.with("recorded", to_json(taken.recorded)).with("refused", to_json(taken.refused));
+        if (taken.code != KIT_OK)
+            made.with("first", to_json(taken.first)).with("code", to_json(std::string(kit_code_name(taken.code) + 4)));
+        if (places_of(taken.code)) made.with("place", to_json(taken.place));
         return made;
     }
 
     void changed_bytes(const Json &step) {
         std::string made = bytes(step["of"]);
         if (auto set = step.find("set")) {
-            for (auto &it : set->list) {
-                long place = std::stol(it.list[0].text);
-                made.at(place < 0 ? made.size() + place : place) = static_cast<char>(std::stoi(it.list[1].text));
+            for (auto &change : set->list) {
+                long place = std::stol(change.list[0].text);
+                made.at(place < 0 ? made.size() + place : place) = static_cast<char>(std::stoi(change.list[1].text));
             }
         }
         if (auto cut = step.find("cut")) made.resize(std::min(made.size(), static_cast<size_t>(std::stoul(cut->text))));
@@ -304,7 +306,7 @@ class Run {
         std::vector<std::thread> threads;
         std::vector<std::shared_ptr<Seat>> seats(static_cast<size_t>(count));
         // (all before one records: a seat that is busy splits none)
-        for (auto &it : seats) it = with_recorders ? nullptr : std::make_shared<Seat>(the<Seat>(step["by"]).split());
+        for (auto &seat : seats) seat = with_recorders ? nullptr : std::make_shared<Seat>(the<Seat>(step["by"]).split());
         for (auto &seat : seats) {
             threads.emplace_back([&, seat] {
                 try {
@@ -317,7 +319,7 @@ class Run {
                 }
             });
         }
-        for (auto &it : threads) it.join();
+        for (auto &thread : threads) thread.join();
         if (!fault.empty()) differs(fault);
     }
 
@@ -326,18 +328,18 @@ class Run {
         auto &names = step["as"].list;
         for (size_t i = 0; i < std::min(names.size(), made.size()); i++)
             things[names[i].text] = std::make_shared<Export>(std::move(made[i]));
-        return told(made.size());
+        return to_json(made.size());
     }
     void page(const Json &step) {
         std::optional<std::string> service;
-        if (auto it = step.find("service")) service = text(*it);
+        if (auto given = step.find("service")) service = text(*given);
         auto &gateway = the<Gateway>(step["of"]);
         std::string page = step["format"].text == "openmetrics" ? gateway.openmetrics(service) : gateway.prometheus(service);
-        for (auto &it : step["has"].list) {
-            if (("\n" + page).find("\n" + it.text + "\n") == std::string::npos) differs("the page has no " + it.text + ":\n" + page);
+        for (auto &line : step["has"].list) {
+            if (("\n" + page).find("\n" + line.text + "\n") == std::string::npos) differs("the page has no " + line.text + ":\n" + page);
         }
-        for (auto &it : step["lacks"].list) {
-            if (page.find(it.text) != std::string::npos) differs("the page has " + it.text + ":\n" + page);
+        for (auto &line : step["lacks"].list) {
+            if (page.find(line.text) != std::string::npos) differs("the page has " + line.text + ":\n" + page);
         }
     }
 
@@ -369,161 +371,163 @@ static std::string bytes_of(const std::vector<uint8_t> &bytes) { return std::str
 
 std::map<std::string, Run::Step> Run::all_steps() {
     // A step that answers nothing.
-    auto done = [](auto call) { return [call](const Json &it) { return call(it), Json(); }; };
+    auto done = [](auto call) { return [call](const Json &step) { return call(step), Json(); }; };
     return {
-        {"plan", done([this](const Json &it) {
+        {"plan", done([this](const Json &step) {
              std::vector<std::string> words;
              std::vector<Instrument> instruments;
-             words.reserve(3 * it["instruments"].list.size());
-             for (auto &one : it["instruments"].list) {
+             words.reserve(3 * step["instruments"].list.size());
+             for (auto &one : step["instruments"].list) {
                  for (int part = 0; part < 3; part++) words.push_back(text(one.list[part]));
                  auto *last = words.data() + words.size() - 3;
                  instruments.push_back({last[0], last[1], last[2], kind(one.list[3])});
              }
              Views views;
-             if (auto given = it.find("views")) {
+             if (auto given = step.find("views")) {
                  for (auto &one : given->list) views.add(view(one));
              }
-             auto limit = it.find("limit");
-             make(it, limit ? Plan::of(instruments, views, number<Number<uint64_t>>(*limit)) : Plan::of(instruments, views));
+             auto limit = step.find("limit");
+             make(step, limit ? Plan::of(instruments, views, number<Number<uint64_t>>(*limit)) : Plan::of(instruments, views));
          })},
-        {"set", done([this](const Json &it) { make(it, Attributes(pairs(it["pairs"]))); })},
-        {"pairs", [this](const Json &it) { return told(the<Attributes>(it["of"]).pairs()); }},
-        {"writer", done([this](const Json &it) {
-             make(it, Writer(the<Plan>(it["plan"]), text(it["service"]), instance(it["instance"]), number<Time>(it["start"])));
+        {"set", done([this](const Json &step) { make(step, Attributes(pairs(step["pairs"]))); })},
+        {"pairs", [this](const Json &step) { return to_json(the<Attributes>(step["of"]).pairs()); }},
+        {"writer", done([this](const Json &step) {
+             make(step, Writer(the<Plan>(step["plan"]), text(step["service"]), instance(step["instance"]), number<Time>(step["start"])));
          })},
-        {"measure", done([this](const Json &it) {
-             by<Writer, Recorder, Seat>(it["by"], [&](auto &thing) {
-                 thing.measure(number<Index>(it["instrument"]), the<Attributes>(it["set"]), number<Value>(it["value"]));
+        {"measure", done([this](const Json &step) {
+             by<Writer, Recorder, Seat>(step["by"], [&](auto &thing) {
+                 thing.measure(number<Index>(step["instrument"]), the<Attributes>(step["set"]), number<Value>(step["value"]));
              });
          })},
-        {"measure_held", done([this](const Json &it) {
-             by<Writer, Recorder, Seat>(it["by"],
-                                        [&](auto &thing) { thing.measure_held(number<Index>(it["number"]), number<Value>(it["value"])); });
+        {"measure_held", done([this](const Json &step) {
+             by<Writer, Recorder, Seat>(
+                 step["by"], [&](auto &thing) { thing.measure_held(number<Index>(step["number"]), number<Value>(step["value"])); });
          })},
         {"hold",
-         [this](const Json &it) {
-             return by<Writer, Seat>(
-                 it["by"], [&](auto &thing) { return told(thing.hold(number<Index>(it["instrument"]), the<Attributes>(it["set"]))); });
+         [this](const Json &step) {
+             return by<Writer, Seat>(step["by"], [&](auto &thing) {
+                 return to_json(thing.hold(number<Index>(step["instrument"]), the<Attributes>(step["set"])));
+             });
          }},
-        {"collect", done([this](const Json &it) {
-             make(it, by<Writer, Seat>(it["by"], [&](auto &thing) { return thing.collect(number<Time>(it["time"])); }));
+        {"collect", done([this](const Json &step) {
+             make(step, by<Writer, Seat>(step["by"], [&](auto &thing) { return thing.collect(number<Time>(step["time"])); }));
          })},
-        {"shutdown", done([this](const Json &it) { make(it, the<Writer>(it["by"]).shutdown(number<Time>(it["time"]))); })},
-        {"restart", done([this](const Json &it) { the<Writer>(it["by"]).restart(number<Time>(it["start"])); })},
-        {"recorder", done([this](const Json &it) { make(it, Recorder(number<Index>(it["capacity"]))); })},
-        {"length", [this](const Json &it) { return told(the<Recorder>(it["of"]).len()); }},
-        {"clear", done([this](const Json &it) { the<Recorder>(it["of"]).clear(); })},
-        {"take_in", [this](const Json &it) { return taken_in(it); }},
-        {"share", done([this](const Json &it) { make(it, std::move(the<Writer>(it["by"])).share()); })},
-        {"split", done([this](const Json &it) {
-             auto times = it.find("times");
-             for (int i = times ? std::stoi(times->text) : 1; i > 0; i--) make(it, the<Seat>(it["by"]).split());
+        {"shutdown", done([this](const Json &step) { make(step, the<Writer>(step["by"]).shutdown(number<Time>(step["time"]))); })},
+        {"restart", done([this](const Json &step) { the<Writer>(step["by"]).restart(number<Time>(step["start"])); })},
+        {"recorder", done([this](const Json &step) { make(step, Recorder(number<Index>(step["capacity"]))); })},
+        {"length", [this](const Json &step) { return to_json(the<Recorder>(step["of"]).len()); }},
+        {"clear", done([this](const Json &step) { the<Recorder>(step["of"]).clear(); })},
+        {"take_in", [this](const Json &step) { return taken_in(step); }},
+        {"share", done([this](const Json &step) { make(step, std::move(the<Writer>(step["by"])).share()); })},
+        {"split", done([this](const Json &step) {
+             auto times = step.find("times");
+             for (int i = times ? std::stoi(times->text) : 1; i > 0; i--) make(step, the<Seat>(step["by"]).split());
          })},
         {"export",
-         [this](const Json &it) {
-             ExportHead head = the<Export>(it["of"]).head();
+         [this](const Json &step) {
+             ExportHead head = the<Export>(step["of"]).head();
              return Json()
-                 .with("service", told(head.service))
-                 .with("instance", told(head.instance))
-                 .with("start", told(head.start))
-                 .with("time", told(head.time))
-                 .with("points", told(head.points));
+                 .with("service", to_json(head.service))
+                 .with("instance", to_json(head.instance))
+                 .with("start", to_json(head.start))
+                 .with("time", to_json(head.time))
+                 .with("points", to_json(head.points));
          }},
-        {"gateway", done([this](const Json &it) { make(it, Gateway(number<Number<uint32_t>>(it["id"]))); })},
+        {"gateway", done([this](const Json &step) { make(step, Gateway(number<Number<uint32_t>>(step["id"]))); })},
         {"gateway_read",
-         [this](const Json &it) {
-             GatewayHead head = the<Gateway>(it["of"]).head();
-             return Json().with("id", told(head.id)).with("points", told(head.points));
+         [this](const Json &step) {
+             GatewayHead head = the<Gateway>(step["of"]).head();
+             return Json().with("id", to_json(head.id)).with("points", to_json(head.points));
          }},
         {"take",
-         [this](const Json &it) {
-             Taking taking = the<Gateway>(it["by"]).take(the<Export>(it["export"]));
-             auto late = it.find("late");
-             if (late && *late != told(taking.is_late)) differs("whether it is late");
-             return told(taking.changed);
+         [this](const Json &step) {
+             Taking taking = the<Gateway>(step["by"]).take(the<Export>(step["export"]));
+             auto late = step.find("late");
+             if (late && *late != to_json(taking.is_late)) differs("whether it is late");
+             return to_json(taking.changed);
          }},
-        {"merge", [this](const Json &it) { return told(the<Gateway>(it["by"]).merge(the<Gateway>(it["from"]))); }},
-        {"merge_bytes", [this](const Json &it) { return told(the<Gateway>(it["by"]).merge_bytes(bytes(it["bytes"]))); }},
-        {"conflicts", [this](const Json &it) { return told(the<Gateway>(it["of"]).conflicts()); }},
-        {"same", [this](const Json &it) { return told(the<Gateway>(it["of"]).same(the<Gateway>(it["and"]))); }},
+        {"merge", [this](const Json &step) { return to_json(the<Gateway>(step["by"]).merge(the<Gateway>(step["from"]))); }},
+        {"merge_bytes", [this](const Json &step) { return to_json(the<Gateway>(step["by"]).merge_bytes(bytes(step["bytes"]))); }},
+        {"conflicts", [this](const Json &step) { return to_json(the<Gateway>(step["of"]).conflicts()); }},
+        {"same", [this](const Json &step) { return to_json(the<Gateway>(step["of"]).same(the<Gateway>(step["and"]))); }},
         {"newest",
-         [this](const Json &it) {
-             return told(the<Gateway>(it["of"]).newest(text(it["service"]), instance(it["instance"]), number<Time>(it["start"])));
+         [this](const Json &step) {
+             return to_json(
+                 the<Gateway>(step["of"]).newest(text(step["service"]), instance(step["instance"]), number<Time>(step["start"])));
          }},
         {"streams",
-         [this](const Json &it) { return by<Plan, Gateway, Export>(it["of"], [](auto &thing) { return told(thing.streams().all()); }); }},
-        {"rows",
-         [this](const Json &it) {
-             Rows rows = the<Gateway>(it["of"]).rows(ask(it["ask"]));
-             auto table = it.find("table");
-             if (table && rows.table() != table->text) differs("the table is " + rows.table());
-             return told(rows.all());
+         [this](const Json &step) {
+             return by<Plan, Gateway, Export>(step["of"], [](auto &thing) { return to_json(thing.streams().all()); });
          }},
-        {"row", [this](const Json &it) { return row(it); }},
-        {"send", done([this](const Json &it) {
-             make(it, the<Gateway>(it["by"]).send(number<Number<uint32_t>>(it["to"])));
-         })},
-        {"hand", done([this](const Json &it) {
-             std::optional<Message> answer = the<Gateway>(it["by"]).hand(the<Message>(it["message"]));
-             auto wanted = it.find("answer");
+        {"rows",
+         [this](const Json &step) {
+             Rows rows = the<Gateway>(step["of"]).rows(ask(step["ask"]));
+             auto table = step.find("table");
+             if (table && rows.table() != table->text) differs("the table is " + rows.table());
+             return to_json(rows.all());
+         }},
+        {"row", [this](const Json &step) { return row(step); }},
+        {"send", done([this](const Json &step) { make(step, the<Gateway>(step["by"]).send(number<Number<uint32_t>>(step["to"]))); })},
+        {"hand", done([this](const Json &step) {
+             std::optional<Message> answer = the<Gateway>(step["by"]).hand(the<Message>(step["message"]));
+             auto wanted = step.find("answer");
              bool is_wanted = wanted && wanted->is == Is::Text;
              if (is_wanted != answer.has_value()) differs("whether there is an answer");
              if (answer) things[wanted->text] = std::make_shared<Message>(std::move(*answer));
          })},
         {"message",
-         [this](const Json &it) {
-             auto head = the<Message>(it["of"]).envelope();
-             return Json().with("from", told(head.from)).with("to", told(head.to)).with("points", told(head.points));
+         [this](const Json &step) {
+             auto head = the<Message>(step["of"]).envelope();
+             return Json().with("from", to_json(head.from)).with("to", to_json(head.to)).with("points", to_json(head.points));
          }},
-        {"archive", done([this](const Json &it) {
-             std::string service = text(it["service"]);
+        {"archive", done([this](const Json &step) {
+             std::string service = text(step["service"]);
              Text of(service);
-             Instance as = instance(it["instance"]);
+             Instance as = instance(step["instance"]);
              Handle<kit_archive> made;
-             checked(kit_archive_begin(made.at(), of.at, of.len, as.high, as.low, number<Time>(it["start"]), number<Index>(it["limit"])));
-             make(it, Archive(std::move(made)));
+             check(kit_archive_begin(made.at(), of.at, of.len, as.high, as.low, number<Time>(step["start"]), number<Index>(step["limit"])));
+             make(step, Archive(std::move(made)));
          })},
-        {"adopt", done([this](const Json &it) {
-             auto &gateway = the<Gateway>(it["gateway"]);
-             the<Archive>(it["by"]).adopt(gateway, text(it["service"]), instance(it["instance"]), number<Time>(it["start"]));
+        {"adopt", done([this](const Json &step) {
+             auto &gateway = the<Gateway>(step["gateway"]);
+             the<Archive>(step["by"]).adopt(gateway, text(step["service"]), instance(step["instance"]), number<Time>(step["start"]));
          })},
-        {"archive_export", done([this](const Json &it) { make(it, the<Archive>(it["by"]).export_at(number<Time>(it["time"]))); })},
-        {"seal", done([this](const Json &it) { the<Archive>(it["by"]).seal(number<Time>(it["start"])); })},
+        {"archive_export", done([this](const Json &step) { make(step, the<Archive>(step["by"]).export_at(number<Time>(step["time"]))); })},
+        {"seal", done([this](const Json &step) { the<Archive>(step["by"]).seal(number<Time>(step["start"])); })},
         {"archive_read",
-         [this](const Json &it) {
-             auto &archive = the<Archive>(it["of"]);
-             return Json().with("start", told(archive.start())).with("adopted", told(archive.adopted()));
+         [this](const Json &step) {
+             auto &archive = the<Archive>(step["of"]);
+             return Json().with("start", to_json(archive.start())).with("adopted", to_json(archive.adopted()));
          }},
-        {"encode", done([this](const Json &it) {
-             make(it, by<Export, Message, Gateway>(it["of"], [](auto &thing) { return bytes_of(thing.encode()); }));
+        {"encode", done([this](const Json &step) {
+             make(step, by<Export, Message, Gateway>(step["of"], [](auto &thing) { return bytes_of(thing.encode()); }));
          })},
-        {"decode", done([this](const Json &it) {
-             std::string given = bytes(it["bytes"]);
-             if (it["what"].text == "export") make(it, Export::decode(given));
-             else make(it, Message::decode(given));
+        {"decode", done([this](const Json &step) {
+             std::string given = bytes(step["bytes"]);
+             if (step["what"].text == "export") make(step, Export::decode(given));
+             else make(step, Message::decode(given));
          })},
         {"incarnations",
-         [this](const Json &it) { return by<Gateway, Message>(it["of"], [](auto &thing) { return told(thing.incarnations()); }); }},
-        {"services", [this](const Json &it) { return told(the<Gateway>(it["of"]).services()); }},
-        {"otlp", done([this](const Json &it) { make(it, bytes_of(the<Export>(it["of"]).otlp())); })},
-        {"of_otlp", [this](const Json &it) { return of_otlp(it); }},
-        {"page", done([this](const Json &it) { page(it); })},
-        {"bytes", done([this](const Json &it) { changed_bytes(it); })},
-        {"bytes_are", done([this](const Json &it) {
-             if (the<std::string>(it["of"]) != unhexed(it["hex"].text)) differs("the bytes are others");
+         [this](const Json &step) { return by<Gateway, Message>(step["of"], [](auto &thing) { return to_json(thing.incarnations()); }); }},
+        {"services", [this](const Json &step) { return to_json(the<Gateway>(step["of"]).services()); }},
+        {"otlp", done([this](const Json &step) { make(step, bytes_of(the<Export>(step["of"]).otlp())); })},
+        {"of_otlp", [this](const Json &step) { return of_otlp(step); }},
+        {"page", done([this](const Json &step) { page(step); })},
+        {"bytes", done([this](const Json &step) { changed_bytes(step); })},
+        {"bytes_are", done([this](const Json &step) {
+             if (the<std::string>(step["of"]) != unhexed(step["hex"].text)) differs("the bytes are others");
          })},
-        {"close", done([this](const Json &it) {
-             by<Plan, Attributes, Writer, Export, Gateway, Message, Recorder, Seat, Archive>(
-                 it["of"], [](auto &thing) { thing.close(); });
+        {"close", done([this](const Json &step) {
+             by<Plan, Attributes, Writer, Export, Gateway, Message, Recorder, Seat, Archive>(step["of"],
+                                                                                             [](auto &thing) { thing.close(); });
          })},
-        {"threads", done([this](const Json &it) { threads(it); })},
-        {"fill", done([this](const Json &it) {
-             for (int n = 0, sets = std::stoi(it["sets"].text); n < sets; n++) {
-                 the<Writer>(it["by"]).measure(number<Index>(it["instrument"]), Attributes{{it["key"].text, n}}, 1);
+        {"threads", done([this](const Json &step) { threads(step); })},
+        {"fill", done([this](const Json &step) {
+             for (int n = 0, sets = std::stoi(step["sets"].text); n < sets; n++) {
+                 the<Writer>(step["by"]).measure(number<Index>(step["instrument"]), Attributes{{step["key"].text, n}}, 1);
              }
          })},
-        {"decode_often", done([this](const Json &it) { decode_often(it); })},
+        {"decode_often", done([this](const Json &step) { decode_often(step); })},
     };
 }
 
@@ -538,9 +542,9 @@ static std::string fault_of(Run &run, const Json &step) {
         return !wanted || told == written_out(*wanted) ? "" : "it answers " + told.shown();
     } catch (const Refused &why) {
         Json made;
-        made.with("code", told(std::string(kit_code_name(why.code) + 4)));
-        if (why.place) made.with("place", told(*why.place));
-        if (why.second) made.with("second", told(*why.second));
+        made.with("code", to_json(std::string(kit_code_name(why.code) + 4)));
+        if (why.place) made.with("place", to_json(*why.place));
+        if (why.second) made.with("second", to_json(*why.second));
         return refused && made == *refused ? "" : "it is refused as " + made.shown();
     } catch (const std::out_of_range &why) {
         return out_of_range ? "" : why.what();

@@ -17,7 +17,7 @@ static const std::chrono::milliseconds SHORT(2), LONG(20000), NEVER = std::chron
 struct Told {
     std::atomic<uint64_t> forks{0}, others{0};
     OnRefused hook() {
-        return [this](const Refusal &it) { (it.code == FORKED ? forks : others)++; };
+        return [this](const Refusal &refusal) { (refusal.code == FORKED ? forks : others)++; };
     }
 };
 
@@ -100,7 +100,7 @@ struct Program {
     }
     void stop() {
         is_over = true;
-        for (auto &it : threads) it.join();
+        for (auto &thread : threads) thread.join();
     }
 };
 
@@ -131,7 +131,7 @@ static void asks_all(Program &of) {
 static void begins_anew() {
     std::atomic<int64_t> brought{0};
     MeterProvider provider(Resource{"child"});
-    provider.AddMetricReader(reader([&](const Export &it) { brought = total(it); }, NEVER));
+    provider.AddMetricReader(reader([&](const Export &given) { brought = total(given); }, NEVER));
     auto requests = provider.GetMeter("app")->CreateUInt64Counter("requests");
     requests->Add(3);
     std::thread([&] { requests->Add(4); }).join();

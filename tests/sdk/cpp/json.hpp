@@ -50,7 +50,7 @@ struct Json {
         case Is::Null: return "null";
         case Is::Text: return '"' + text + '"';
         case Is::List:
-            for (auto &it : list) told += (told.empty() ? "" : ", ") + it.shown();
+            for (auto &item : list) told += (told.empty() ? "" : ", ") + item.shown();
             return "[" + told + "]";
         case Is::Fields:
             for (auto &[key, value] : fields) told += (told.empty() ? "" : ", ") + key + ": " + value.shown();

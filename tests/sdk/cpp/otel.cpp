@@ -16,9 +16,9 @@ struct Told {
     std::mutex lock;
     std::vector<Refusal> list;
     OnRefused hook() {
-        return [this](const Refusal &it) {
+        return [this](const Refusal &refusal) {
             std::lock_guard<std::mutex> has(lock);
-            list.push_back(it);
+            list.push_back(refusal);
         };
     }
 };
@@ -52,7 +52,7 @@ static Ask of_requests() { return Ask::sum("app", "requests", "1"); }
 
 static int64_t total(const std::vector<Row> &rows) {
     int64_t sum = 0;
-    for (auto &it : rows) sum += *std::get<WideSum>(it.total).narrow();
+    for (auto &row : rows) sum += *std::get<WideSum>(row.total).narrow();
     return sum;
 }
 
@@ -104,9 +104,9 @@ static void a_late_instrument_is_told_by_name_and_place() {
     // (the same again is the same, also when it is late)
     requests_of(provider)->Add(2);
     CHECK(told.list.size() == 2);
-    for (auto &it : told.list) {
-        CHECK(it.instrument == "late" && it.code == DECLARED_LATE && it.declared.line == line);
-        CHECK(std::strcmp(it.declared.file, __FILE__) == 0 && it.what().find("DECLARED_LATE") != std::string::npos);
+    for (auto &refusal : told.list) {
+        CHECK(refusal.instrument == "late" && refusal.code == DECLARED_LATE && refusal.declared.line == line);
+        CHECK(std::strcmp(refusal.declared.file, __FILE__) == 0 && refusal.what().find("DECLARED_LATE") != std::string::npos);
     }
     CHECK(told.list[0].count == 0 && told.list[1].count == 1 && provider.RefusedCount() == 1);
     CHECK(total(rows(provider, of_requests())) == 3);
@@ -121,7 +121,7 @@ static void one_that_the_plan_refuses_leaves_the_others() {
                                                     meter->CreateUInt64Counter("fine", "", "\xc2\xb5s"), meter->CreateUInt64Counter("\xff"),
                                                     provider.GetMeter("kotskhin.archive")->CreateUInt64Counter("requests")};
     auto requests = requests_of(provider);
-    for (auto &it : refused) it->Add(1);
+    for (auto &instrument : refused) instrument->Add(1);
     requests->Add(7);
     const int32_t codes[] = {KIT_BAD_NAME, KIT_BAD_UNIT, KIT_NOT_TEXT, KIT_RESERVED_SCOPE};
     CHECK(told.list.size() == 8);
@@ -151,9 +151,9 @@ static void a_view_that_can_not_be_applied_is_passed_over() {
     const int32_t codes[] = {KIT_BAD_AGGREGATION, KIT_BAD_RENAME, KIT_BAD_BOUNDS, KIT_NOT_TEXT};
     REQUIRE(told.list.size() == 8);
     for (size_t i = 0; i < told.list.size(); i++) {
-        const Refusal &it = told.list[i];
-        CHECK(it.of == RefusalOf::View && it.code == codes[i % 4] && it.place == i % 4 + 1 && it.count == 0);
-        CHECK(it.instrument == (i < 4 ? "requests" : "other"));
+        const Refusal &refusal = told.list[i];
+        CHECK(refusal.of == RefusalOf::View && refusal.code == codes[i % 4] && refusal.place == i % 4 + 1 && refusal.count == 0);
+        CHECK(refusal.instrument == (i < 4 ? "requests" : "other"));
     }
     std::string at = ", declared at " + std::string(__FILE__) + ":" + std::to_string(line);
     CHECK(told.list[4].what().rfind("'other'" + at + ": view 1 is passed over: KIT_BAD_AGGREGATION: ", 0) == 0);
@@ -235,7 +235,7 @@ static void the_last_recording_of_a_gauge_wins() {
             }
         });
     }
-    for (auto &it : threads) it.join();
+    for (auto &thread : threads) thread.join();
     CHECK(wrong == 0 && provider.Cached() == 1);
     CHECK(std::get<std::optional<Newest>>(rows(provider, Ask::gauge("app", "depth", ""))[1].total)->value == TURNS - 1);
 }
@@ -248,7 +248,7 @@ static void a_provider_without_recordings_ends() {
     requests->Add(1);
     provider.GetMeter("app")->CreateUInt64Counter("more")->Add(1);
     CHECK(told.list.size() == 3 && throws<Closed>([&] { provider.Start(); }) && throws<Refused>([&] { provider.Collect(); }));
-    for (auto &it : told.list) CHECK(it.code == KIT_CLOSED);
+    for (auto &refusal : told.list) CHECK(refusal.code == KIT_CLOSED);
 }
 
 // Threads that record while others collect, at more sets than are held and than the stream has points for.
@@ -276,7 +276,7 @@ static void nothing_is_lost_between_threads() {
             std::this_thread::yield();
         }
     });
-    for (auto &it : threads) it.join();
+    for (auto &thread : threads) thread.join();
     auto all = rows(provider, of_requests());
     // (300 sets, and one for the others)
     CHECK(total(all) == THREADS * EACH && all.size() == 301 && provider.RefusedCount() == 0);
@@ -371,7 +371,7 @@ static void one_name_may_have_two_units() {
     auto kilo = meter->CreateUInt64Histogram("size", "", "kBy", one);
     auto taken = meter->CreateUInt64Histogram("instrument-1", "", "", one);
     auto elsewhere = provider.GetMeter("library")->CreateUInt64Histogram("size", "", "By", ten);
-    for (auto it : {&bare, &bytes, &blocks, &kilo, &taken, &elsewhere}) (*it)->Record(5, {{"route", "/"}, {"status", 200}});
+    for (auto histogram : {&bare, &bytes, &blocks, &kilo, &taken, &elsewhere}) (*histogram)->Record(5, {{"route", "/"}, {"status", 200}});
     CHECK(told.list.empty() && rows(provider, Ask::histogram("app", "kilo", "kBy", {7}))[0].attributes.size() == 1);
     CHECK(provider.Collect().head().points == 7);
     using Buckets = std::vector<uint64_t>;
@@ -465,7 +465,7 @@ static void a_limit_that_is_reached_is_told_once_for_each_stream() {
     add(requests, 5);
     depth->Record(7, {{"n", 7}});
     REQUIRE(provider.Shutdown() && provider.RefusedCount() == 0 && told.list.size() == 3);
-    for (auto &it : told.list) CHECK(it.code == CARDINALITY_LIMIT && it.of == RefusalOf::Stream && it.count == 0);
+    for (auto &refusal : told.list) CHECK(refusal.code == CARDINALITY_LIMIT && refusal.of == RefusalOf::Stream && refusal.count == 0);
     CHECK(told.list[0].what() == "'errors': CARDINALITY_LIMIT: further sets are counted together, in the point otel.metric.overflow=true");
 }
 
@@ -507,7 +507,7 @@ static void instruments_outlast_their_provider() {
     depth->Record(1);
     depth->Record(2, {{"route", "/"}});
     CHECK(told.list.size() == 3);
-    for (auto &it : told.list) CHECK(it.code == KIT_CLOSED && it.count == 1);
+    for (auto &refusal : told.list) CHECK(refusal.code == KIT_CLOSED && refusal.count == 1);
 }
 
 static void one_provider_is_for_all() {

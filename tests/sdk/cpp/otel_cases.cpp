@@ -26,7 +26,7 @@ static std::string word(const Json &of, const char *name, const char *otherwise 
 
 static std::vector<int64_t> numbers(const Json &of) {
     std::vector<int64_t> made;
-    for (auto &it : of.list) made.push_back(std::stoll(it.text));
+    for (auto &number : of.list) made.push_back(std::stoll(number.text));
     return made;
 }
 
@@ -34,7 +34,7 @@ static View view(const Json &of) {
     View made{word(of, "rename"), Aggregation::AsKind, {}, {}};
     if (auto keep = of.find("keep")) {
         made.keys.emplace();
-        for (auto &it : keep->list) made.keys->push_back(it.text);
+        for (auto &key : keep->list) made.keys->push_back(key.text);
     }
     auto aggregation = of.find("aggregation");
     if (aggregation && aggregation->is == Json::Is::Text) made.aggregation = Aggregation::Drop;
@@ -44,11 +44,11 @@ static View view(const Json &of) {
 
 static At pairs(const Json &of) {
     At made;
-    for (auto &it : of.list) {
-        const Json &value = it.list[1];
-        if (value.is == Json::Is::Truth) made.emplace_back(it.list[0].text, value.text == "true");
-        else if (value.is == Json::Is::Number) made.emplace_back(it.list[0].text, static_cast<int64_t>(std::stoll(value.text)));
-        else made.emplace_back(it.list[0].text, value.text);
+    for (auto &pair : of.list) {
+        const Json &value = pair.list[1];
+        if (value.is == Json::Is::Truth) made.emplace_back(pair.list[0].text, value.text == "true");
+        else if (value.is == Json::Is::Number) made.emplace_back(pair.list[0].text, static_cast<int64_t>(std::stoll(value.text)));
+        else made.emplace_back(pair.list[0].text, value.text);
     }
     return made;
 }
@@ -134,52 +134,52 @@ class Run {
     }
     template <typename Made>
     static Call adding(std::unique_ptr<Made> made) {
-        return [it = std::shared_ptr<Made>(std::move(made))](const std::string &value, const At &at) {
-            if (value[0] == '-') recorded(*it, std::stoll(value), at);
-            else recorded(*it, std::stoull(value), at);
+        return [instrument = std::shared_ptr<Made>(std::move(made))](const std::string &value, const At &at) {
+            if (value[0] == '-') recorded(*instrument, std::stoll(value), at);
+            else recorded(*instrument, std::stoull(value), at);
         };
     }
-    Call made(const Json &it) {
-        auto meter = provider->GetMeter(it["scope"].text);
-        const std::string &name = it["name"].text, &unit = it["unit"].text;
-        switch (KINDS.at(it["kind"].text)) {
+    Call make(const Json &step) {
+        auto meter = provider->GetMeter(step["scope"].text);
+        const std::string &name = step["name"].text, &unit = step["unit"].text;
+        switch (KINDS.at(step["kind"].text)) {
         case Kind::Counter: return adding(meter->CreateUInt64Counter(name, "", unit));
         case Kind::UpDown: return adding(meter->CreateInt64UpDownCounter(name, "", unit));
         case Kind::Gauge: return adding(meter->CreateInt64Gauge(name, "", unit));
         default:
-            if (auto bounds = it.find("bounds")) return adding(meter->CreateUInt64Histogram(name, "", unit, numbers(*bounds)));
+            if (auto bounds = step.find("bounds")) return adding(meter->CreateUInt64Histogram(name, "", unit, numbers(*bounds)));
             return adding(meter->CreateUInt64Histogram(name, "", unit));
         }
     }
-    Json declare(const Json &it) {
-        Call call = made(it);
+    Json declare(const Json &step) {
+        Call call = make(step);
         std::lock_guard<std::mutex> has(told.lock);
         std::string refused = std::exchange(told.declared, "");
         if (!refused.empty()) return Json::of(refused);
-        calls[word(it, "as")] = std::move(call);
+        calls[word(step, "as")] = std::move(call);
         return {};
     }
-    Json record(const Json &it) {
-        const Call &call = calls.at(it["by"].text);
-        const At at = pairs(it["at"]);
-        const int times = std::stoi(word(it, "times", "1"));
+    Json record(const Json &step) {
+        const Call &call = calls.at(step["by"].text);
+        const At at = pairs(step["at"]);
+        const int times = std::stoi(word(step, "times", "1"));
         auto often = [&] {
-            for (int i = 0; i < times; i++) call(it["value"].text, at);
+            for (int i = 0; i < times; i++) call(step["value"].text, at);
         };
-        if (word(it, "on") == "other") return other.does(often), Json();
+        if (word(step, "on") == "other") return other.does(often), Json();
         std::vector<std::thread> threads;
-        for (int i = std::stoi(word(it, "threads", "0")); i > 0; i--) threads.emplace_back(often);
+        for (int i = std::stoi(word(step, "threads", "0")); i > 0; i--) threads.emplace_back(often);
         for (auto &one : threads) one.join();
         if (threads.empty()) often();
         return {};
     }
-    Json collect(const Json &it) {
+    Json collect(const Json &step) {
         collected.reset();
         try {
             collected = provider->Collect();
         } catch (const kotskhin::Refused &) {
         }
-        return collected.has_value() != (it.find("nothing") != nullptr) ? Json() : Json::of(collected.has_value());
+        return collected.has_value() != (step.find("nothing") != nullptr) ? Json() : Json::of(collected.has_value());
     }
     Json head() {
         auto head = collected.value().head();
@@ -194,7 +194,8 @@ class Run {
     }
     Json streams() {
         std::vector<Json> all;
-        for (auto &it : gateway().streams().all()) all.push_back(Json::of(std::vector{Json::of(it.scope), Json::of(it.name), Json::of(it.unit)}));
+        for (auto &stream : gateway().streams().all())
+            all.push_back(Json::of(std::vector{Json::of(stream.scope), Json::of(stream.name), Json::of(stream.unit)}));
         return Json::of(std::move(all));
     }
     Json values(const Ask &ask) {
@@ -203,38 +204,38 @@ class Run {
             all.push_back(Json::number(std::to_string(std::get<std::optional<kotskhin::Newest>>(row.total).value().value)));
         return Json::of(std::move(all));
     }
-    Json refused(const Json &it) {
+    Json refused(const Json &step) {
         std::lock_guard<std::mutex> has(told.lock);
         std::vector<Json> all;
         for (auto &reason : std::exchange(told.refused, {})) all.push_back(Json::of(reason));
         Json made = Json::of(std::move(all));
-        return made == it["by"] ? Json::number(std::to_string(provider->RefusedCount())) : made;
+        return made == step["by"] ? Json::number(std::to_string(provider->RefusedCount())) : made;
     }
     Json exported() {
         std::lock_guard<std::mutex> has(told.lock);
         if (!told.brought.empty()) collected = Export::decode(told.brought.back());
         return Json::number(std::to_string(told.brought.size()));
     }
-    static Json fails(const Json &it, bool is_good) { return is_good != (it.find("fails") != nullptr) ? Json() : Json::of(is_good); }
+    static Json fails(const Json &step, bool is_good) { return is_good != (step.find("fails") != nullptr) ? Json() : Json::of(is_good); }
 
 public:
     explicit Run(const Json &of) {
         Options options;
         if (auto limit = of.find("limit")) options.limit = std::stoull(limit->text);
         if (auto held = of.find("held")) options.cache = std::stoull(held->text);
-        options.on_refused = [this](const Refusal &it) {
+        options.on_refused = [this](const Refusal &refusal) {
             std::lock_guard<std::mutex> has(told.lock);
-            if (it.of == RefusalOf::Instrument) told.declared = reason_of(it.code);
-            else told.refused.insert(reason_of(it.code));
+            if (refusal.of == RefusalOf::Instrument) told.declared = reason_of(refusal.code);
+            else told.refused.insert(reason_of(refusal.code));
         };
         Resource resource{word(of, "service", "shop"), {0, std::stoull(word(of, "instance", "1"))}};
         provider = std::make_unique<MeterProvider>(std::move(resource), std::move(options));
         if (auto views = of.find("views")) {
-            for (auto &it : views->list) {
+            for (auto &given : views->list) {
                 InstrumentSelector selects;
-                if (auto kind = it.find("kind")) selects.kind = KINDS.at(kind->text);
-                selects.name = word(it, "name", "*");
-                provider->AddView(selects, MeterSelector{word(it, "scope")}, view(it));
+                if (auto kind = given.find("kind")) selects.kind = KINDS.at(kind->text);
+                selects.name = word(given, "name", "*");
+                provider->AddView(selects, MeterSelector{word(given, "scope")}, view(given));
             }
         }
         if (!of.find("reader")) return;
@@ -250,26 +251,26 @@ public:
     // (the provider's threads call what is of the case)
     ~Run() { provider.reset(); }
 
-    Json step(const Json &it) {
-        const std::string &what = it["do"].text;
-        if (what == "declare") return declare(it);
-        if (what == "record") return record(it);
-        if (what == "collect") return collect(it);
+    Json step(const Json &given) {
+        const std::string &what = given["do"].text;
+        if (what == "declare") return declare(given);
+        if (what == "record") return record(given);
+        if (what == "collect") return collect(given);
         if (what == "head") return head();
         if (what == "streams") return streams();
-        if (what == "table") return Json::of(gateway().table(ask(it["of"])));
-        if (what == "value") return values(ask(it["of"])).list.at(0);
-        if (what == "values") return values(ask(it["of"]));
-        if (what == "refused") return refused(it);
+        if (what == "table") return Json::of(gateway().table(ask(given["of"])));
+        if (what == "value") return values(ask(given["of"])).list.at(0);
+        if (what == "values") return values(ask(given["of"]));
+        if (what == "refused") return refused(given);
         if (what == "exported") return exported();
-        if (what == "flush") return fails(it, provider->ForceFlush());
-        if (what == "shutdown") return fails(it, provider->Shutdown());
+        if (what == "flush") return fails(given, provider->ForceFlush());
+        if (what == "shutdown") return fails(given, provider->Shutdown());
         if (what == "start") return provider->Start(), Json();
         std::lock_guard<std::mutex> has(told.lock);
         if (what == "failed") return Json::number(std::to_string(told.failed));
         if (what != "failing") throw std::runtime_error("there is no step " + what);
-        told.is_failing = it["is"].text == "true";
-        return it["is"];
+        told.is_failing = given["is"].text == "true";
+        return given["is"];
     }
 };
 

@@ -81,8 +81,8 @@ static std::unique_ptr<PeriodicExportingMetricReader> reader(std::unique_ptr<Pus
     options.export_interval_millis = interval;
     options.export_timeout_millis = timeout;
     if (failed) {
-        options.on_failed = [failed](const ExportFailure &it) {
-            failed->tell(it.why + (it.unsent ? ": " + std::to_string(total(*it.unsent)) : ""));
+        options.on_failed = [failed](const ExportFailure &failure) {
+            failed->tell(failure.why + (failure.unsent ? ": " + std::to_string(total(*failure.unsent)) : ""));
         };
     }
     return std::make_unique<PeriodicExportingMetricReader>(std::move(exporter), options);
@@ -102,7 +102,7 @@ static void it_collects_once_in_an_interval() {
     CHECK(heard.many_of("7", 3) && Clock::now() - began >= SHORT && provider.Shutdown());
     Words all = heard.all();
     // (as long as this thread waits between the start and the recording, collections have nothing)
-    auto first = std::find_if(all.begin(), all.end(), [](const std::string &it) { return it != "0"; });
+    auto first = std::find_if(all.begin(), all.end(), [](const std::string &text) { return text != "0"; });
     CHECK(std::count(first, all.end(), "7") == all.end() - first - 1 && all.back() == "end" && provider.FailedCount() == 0);
 }
 
@@ -142,10 +142,10 @@ static void a_last_export_that_failed_is_handed_back() {
 static void two_readers_bring_the_same() {
     Heard heard[2];
     MeterProvider provider;
-    for (auto &it : heard) provider.AddMetricReader(reader(std::make_unique<Telling>(it), NEVER));
+    for (auto &told : heard) provider.AddMetricReader(reader(std::make_unique<Telling>(told), NEVER));
     requests_of(provider)->Add(7);
     CHECK(provider.Shutdown());
-    for (auto &it : heard) CHECK((it.all() == Words{"7", "end"}));
+    for (auto &told : heard) CHECK((told.all() == Words{"7", "end"}));
 }
 
 static void an_export_that_takes_too_long_is_told() {
@@ -235,14 +235,14 @@ struct Folder {
     std::string path = std::string(getenv("TMPDIR") ? getenv("TMPDIR") : "/tmp") + "/kotskhin-readers-XXXXXX";
     Folder() { CHECK(mkdtemp(path.data())); }
     ~Folder() {
-        for (auto &it : names()) std::remove((path + "/" + it).c_str());
+        for (auto &name : names()) std::remove((path + "/" + name).c_str());
         rmdir(path.c_str());
     }
     Words names() const {
         Words all;
         std::unique_ptr<DIR, int (*)(DIR *)> folder(opendir(path.c_str()), closedir);
-        while (auto it = readdir(folder.get()))
-            if (it->d_name[0] != '.') all.push_back(it->d_name);
+        while (auto entry = readdir(folder.get()))
+            if (entry->d_name[0] != '.') all.push_back(entry->d_name);
         std::sort(all.begin(), all.end());
         return all;
     }
@@ -282,7 +282,7 @@ static void a_file_is_written_under_a_name_of_its_own() {
             }
         });
     }
-    for (auto &it : threads) it.join();
+    for (auto &thread : threads) thread.join();
     CHECK(torn == 0 && folder.names() == Words{"export"});
     // What fails leaves nothing behind: a folder is in the way.
     std::string taken = folder.path + "/taken";
@@ -322,11 +322,11 @@ static void the_next_exporter_where_one_fails() {
     requests_of(provider)->Add(7);
     Export given = provider.Collect();
     using Turn = std::pair<std::vector<int>, std::vector<int>>;
-    for (const Turn &it : {Turn{{}, {1}}, Turn{{1, 2}, {1, 2, 3}}, Turn{{}, {3}}}) {
+    for (const Turn &turn : {Turn{{}, {1}}, Turn{{1, 2}, {1, 2, 3}}, Turn{{}, {3}}}) {
         asked.clear();
-        down = it.first;
+        down = turn.first;
         all.Export(given);
-        CHECK(asked == it.second);
+        CHECK(asked == turn.second);
     }
     down = {1, 2, 3};
     CHECK(throws<std::runtime_error>([&] { all.Export(given); }));
@@ -358,15 +358,15 @@ static void points_that_were_rejected_are_read() {
     // (fields that are not known, one that comes twice, an answer that is as long as is looked at, and one whose length is a brace)
     std::string others = std::string("\x12\x01").append("a\x1d").append("1234\x21").append("12345678\x28\x7f");
     std::string inner = std::string("\x0a\x09\x0a\x01").append("a\x10\x07\x18\x07\x08\x03");
-    for (const Case &it : std::vector<Case>{{partial(3, "3 points: LATE"), 3, "3 points: LATE"},
-                                            {partial(3, ""), 3, ""},
-                                            {others + REJECTED, 3, "why"},
-                                            {inner, 3, ""},
-                                            {REJECTED + "\x0a\x02\x08\x05", 5, "why"},
-                                            {REJECTED + "\x12\xf3\xff\x03" + MOST.substr(13), 3, "why"},
-                                            {partial(3, wide), 3, wide}}) {
-        auto told = metrics::detail::points_not_taken(it.body);
-        CHECK(told && told->points == it.points && told->exports == 0 && told->message == it.message);
+    for (const Case &one : std::vector<Case>{{partial(3, "3 points: LATE"), 3, "3 points: LATE"},
+                                             {partial(3, ""), 3, ""},
+                                             {others + REJECTED, 3, "why"},
+                                             {inner, 3, ""},
+                                             {REJECTED + "\x0a\x02\x08\x05", 5, "why"},
+                                             {REJECTED + "\x12\xf3\xff\x03" + MOST.substr(13), 3, "why"},
+                                             {partial(3, wide), 3, wide}}) {
+        auto told = metrics::detail::points_not_taken(one.body);
+        CHECK(told && told->points == one.points && told->exports == 0 && told->message == one.message);
     }
 }
 
@@ -377,19 +377,19 @@ static bool says_nothing(const std::string &answer) {
 }
 
 static void other_answers_say_nothing() {
-    for (auto &it :
+    for (auto &answer :
          {std::string(), partial(0, "a warning"), raw("\x0a\x00"), raw("\x00"), std::string("OK\n"), std::string("\x08\x05"),
           REJECTED + "\x0a", REJECTED + "\x0b", REJECTED + "\x12\xf4\xff\x03" + MOST.substr(12), "\x0a\x0b\x08" + ALL_ONES + "\x01",
           "\x0a\x0c\x08" + ALL_ONES + "\xff\xff", REJECTED + "\x12" + ALL_ONES + "\x01" + MOST.substr(100)}) {
-        CHECK(says_nothing(it));
+        CHECK(says_nothing(answer));
     }
     for (size_t cut = 1; cut < REJECTED.size(); cut++) CHECK(says_nothing(REJECTED.substr(0, cut)));
 }
 
 static void exports_that_were_late_are_read() {
-    using metrics::detail::late_of;
-    CHECK(late_of("2") == 2 && late_of(" 2\r\n") == 2 && late_of(std::string(19, '9')) == 9'999'999'999'999'999'999u);
-    for (auto it : {"0", "", " \r\n", "two", "-2", "+2", "2.0", "2222222222222222222222222"}) CHECK(late_of(it) == 0);
+    using metrics::detail::read_late;
+    CHECK(read_late("2") == 2 && read_late(" 2\r\n") == 2 && read_late(std::string(19, '9')) == 9'999'999'999'999'999'999u);
+    for (auto text : {"0", "", " \r\n", "two", "-2", "+2", "2.0", "2222222222222222222222222"}) CHECK(read_late(text) == 0);
 }
 
 // An export of which something was not taken goes to no other gateway, and the one that said so is asked first the next time.
@@ -406,9 +406,10 @@ static void what_was_not_taken_goes_to_nobody_else() {
     PeriodicExportingMetricReaderOptions options;
     options.export_interval_millis = NEVER;
     std::vector<std::string> told;
-    options.on_failed = [&](const ExportFailure &it) {
-        CHECK(it.not_taken && it.not_taken->points == 7 && it.not_taken->message == "LATE" && it.unsent && total(*it.unsent) == 7);
-        told.push_back(it.why);
+    options.on_failed = [&](const ExportFailure &failure) {
+        CHECK(failure.not_taken && failure.not_taken->points == 7 && failure.not_taken->message == "LATE" && failure.unsent &&
+              total(*failure.unsent) == 7);
+        told.push_back(failure.why);
     };
     MeterProvider provider;
     provider.AddMetricReader(std::make_unique<PeriodicExportingMetricReader>(std::make_unique<FirstOf>(std::move(three)), options));
@@ -439,7 +440,7 @@ struct Server {
         getsockname(listening, reinterpret_cast<sockaddr *>(&address), &len);
         url = "http://127.0.0.1:" + std::to_string(ntohs(address.sin_port)) + "/v1/metrics";
         thread = std::thread([this, answers] {
-            for (auto &it : answers) serve(it);
+            for (auto &answer : answers) serve(answer);
         });
     }
     ~Server() {
@@ -495,7 +496,7 @@ static void http_brings_an_export_and_tells_what_is_answered() {
         CHECK(said == server.url + " answered 503");
         CHECK(throws<std::runtime_error>([&] { exporter.Export(given); }));
         HttpExporter::Options other;
-        other.encode = [](const Export &it) { return it.encode(); };
+        other.encode = [](const Export &given) { return given.encode(); };
         other.content_type = "application/mine";
         HttpExporter(server.url, other).Export(given);
         server.thread.join();
@@ -565,17 +566,17 @@ static void http_tells_why_it_was_refused() {
         {line, ": " + line}, {line + "\r\nand more", ": " + line},         {"a\x1b[2J\tb\x7f" + raw("\0"), ": a[2Jb"}, {"", ""},
         {"\n", ""},          {MOST + MOST, ": " + std::string(1024, 'x')}, {wide, ": " + std::string(1023, 'x')}};
     std::vector<std::string> answers;
-    for (auto &it : bodies) answers.push_back(refusal(it.first));
+    for (auto &body : bodies) answers.push_back(refusal(body.first));
     Server server(answers);
     HttpExporter exporter(server.url);
-    for (auto &it : bodies) {
+    for (auto &body : bodies) {
         std::string said;
         try {
             exporter.Export(given);
         } catch (const std::runtime_error &why) {
             said = why.what();
         }
-        CHECK(said == server.url + " answered 403" + it.second);
+        CHECK(said == server.url + " answered 403" + body.second);
     }
 }
 

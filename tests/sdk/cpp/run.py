@@ -33,14 +33,14 @@ TSAN = ["-fsanitize=thread"]
 THREADED = ("otel_cases", "otel", "readers")
 # What is run with another word, and what is run without sanitizers.
 WITH, PLAIN = {"otel": ("otel", "plugin", "forks", "misuse")}, ("forks",)
-WORDS = {it: [str(HERE.parent / f"{it}.json")] for it in ("cases", "otel_cases")}
+WORDS = {word: [str(HERE.parent / f"{word}.json")] for word in ("cases", "otel_cases")}
 SECONDS = 1800
 
 
-def done(*command):
+def call(*command):
     """Runs a command, and tells its output where it fails."""
     given = {**os.environ, "ASAN_OPTIONS": "detect_leaks=1:quarantine_size_mb=16"}
-    told = subprocess.run([str(it) for it in command], stdin=subprocess.DEVNULL, stdout=subprocess.PIPE, stderr=subprocess.STDOUT,
+    told = subprocess.run([str(word) for word in command], stdin=subprocess.DEVNULL, stdout=subprocess.PIPE, stderr=subprocess.STDOUT,
                           timeout=SECONDS, env=given, check=False)
     if told.returncode:
         sys.exit(f"{' '.join(map(str, command))}: status {told.returncode}\n{told.stdout.decode(errors='replace')}")
@@ -55,17 +55,17 @@ def curl():
     return ["-DWITH_CURL", *told.split()]
 
 
-def built(kit, room, compiler, source, flags):
+def compile_program(kit, room, compiler, source, flags):
     """A program, compiled over the kit."""
     program = room / "program"
     more = curl() if source.stem in ("readers", "first_of") else []
-    done(compiler, *FLAGS, *flags, f"-I{kit}/include", source, f"-L{kit}/lib", "-lkotskhin", "-pthread", *more, "-o", program)
+    call(compiler, *FLAGS, *flags, f"-I{kit}/include", source, f"-L{kit}/lib", "-lkotskhin", "-pthread", *more, "-o", program)
     return program
 
 
-def ran(kit, room, compiler, source, flags, words=()):
+def run_program(kit, room, compiler, source, flags, words=()):
     """What a program prints that is compiled over the kit."""
-    return done(built(kit, room, compiler, source, flags), *words)
+    return call(compile_program(kit, room, compiler, source, flags), *words)
 
 
 def plugin(kit, room, compiler, flags):
@@ -73,16 +73,17 @@ def plugin(kit, room, compiler, flags):
     libraries = [room / f"lib{visibility}.so" for visibility in ("hidden", "default")]
     for library in libraries:
         more = ["-shared", "-fPIC", f"-fvisibility={library.stem.removeprefix('lib')}", "-o", library]
-        done(compiler, *FLAGS, *flags, f"-I{kit}/include", HERE / "plugin_library.cpp", f"-L{kit}/lib", "-lkotskhin", "-pthread", *more)
-    return ran(kit, room, compiler, HERE / "plugin.cpp", [*flags, "-ldl"], libraries)
+        call(compiler, *FLAGS, *flags, f"-I{kit}/include", HERE / "plugin_library.cpp", f"-L{kit}/lib", "-lkotskhin", "-pthread", *more)
+    return run_program(kit, room, compiler, HERE / "plugin.cpp", [*flags, "-ldl"], libraries)
 
 
 def misuse(kit, compiler):
     """What must not compile is refused, each line by the error that stands there."""
     source = HERE / "misuse.cpp"
-    command = [str(it) for it in (compiler, "-std=c++17", "-fsyntax-only", f"-I{kit}/include", source)]
+    command = [str(word) for word in (compiler, "-std=c++17", "-fsyntax-only", f"-I{kit}/include", source)]
     told = subprocess.run(command, stdin=subprocess.DEVNULL, capture_output=True, text=True, timeout=SECONDS, check=False).stderr
-    wanted = {number: it[1] for number, line in enumerate(source.open(encoding="utf-8"), 1) if (it := re.search("// error: (.*)", line))}
+    lines = source.read_text(encoding="utf-8").splitlines()
+    wanted = {number: error[1] for number, line in enumerate(lines, 1) if (error := re.search("// error: (.*)", line))}
     errors = [(file, int(line), why) for file, line, why in re.findall(r"^(.*?):(\d+):\d+: error: (.*)", told, re.M)]
     is_good = all(file == str(source) and re.search(wanted.get(line, "(?!)"), why) for file, line, why in errors)
     if not is_good or {line for _, line, _ in errors} != set(wanted):
@@ -100,13 +101,13 @@ def page(kit, room, compiler):
             sys.exit(f"docs/use/CPP.md: a program is not {source.relative_to(TOP)}")
     line = re.search(r"^c\+\+( -std=c\+\+17 \$R.*)", text, re.M)[1]
     given = f"cd {room}; R={TOP} PKG_CONFIG_PATH={kit}/lib/pkgconfig; export PKG_CONFIG_PATH; {compiler}"
-    if (told := done("sh", "-ec", given + line)) != first:
+    if (told := call("sh", "-ec", given + line)) != first:
         sys.exit(f"docs/use/CPP.md: its first program prints\n{told}")
-    if (told := ran(kit, room, compiler, sources[2], [])) != third:
+    if (told := run_program(kit, room, compiler, sources[2], [])) != third:
         sys.exit(f"docs/use/CPP.md: its third program prints\n{told}")
     if not there.has("C++", "pkg-config", "libcurl"):
         return
-    program = built(kit, room, compiler, sources[1], [])
+    program = compile_program(kit, room, compiler, sources[1], [])
 
     def run(*words):
         return subprocess.run([program, *words], stdin=subprocess.DEVNULL, capture_output=True, timeout=SECONDS, check=False).returncode
@@ -121,11 +122,11 @@ def tidy(kit):
         return
     for name in ("otel.cpp", "first_of.cpp"):
         if "first_of" not in name or there.has("C++", "pkg-config", "libcurl"):
-            done("clang-tidy", "--quiet", TOP / "sdk" / "cpp" / name, "--", "-std=c++17", f"-I{TOP}/sdk/cpp", f"-I{kit}/include")
+            call("clang-tidy", "--quiet", TOP / "sdk" / "cpp" / name, "--", "-std=c++17", f"-I{TOP}/sdk/cpp", f"-I{kit}/include")
     print("clang-tidy finds nothing")
 
 
-def told_of(kit, room, what, compiler, flags):
+def try_word(kit, room, what, compiler, flags):
     """What one of the words comes to, by a compiler."""
     if what == "page":
         return page(kit, room, compiler) or what
@@ -133,7 +134,7 @@ def told_of(kit, room, what, compiler, flags):
         return plugin(kit, room, compiler, flags)
     if what == "misuse":
         return misuse(kit, compiler)
-    return ran(kit, room, compiler, HERE / f"{what}.cpp", flags, WORDS.get(what, ()))
+    return run_program(kit, room, compiler, HERE / f"{what}.cpp", flags, WORDS.get(what, ()))
 
 
 def main():
@@ -145,7 +146,7 @@ def main():
             ways = [("g++", [] if what in PLAIN else ASAN), ("clang++", [])] + [("clang++", TSAN)] * (what in THREADED)
             for compiler, flags in ways:
                 if there.has("C++", compiler):
-                    print(what, compiler, *flags, told_of(kit, pathlib.Path(made), what, compiler, flags).strip(), flush=True)
+                    print(what, compiler, *flags, try_word(kit, pathlib.Path(made), what, compiler, flags).strip(), flush=True)
     return 0
 
 

@@ -41,7 +41,7 @@ func main() {
 """
 
 
-def done(room, *command):
+def call(room, *command):
     """What a command prints."""
     made = subprocess.run(command, cwd=room, capture_output=True, text=True, timeout=1800, check=False)
     if made.returncode:
@@ -49,17 +49,17 @@ def done(room, *command):
     return made.stdout
 
 
-def built(room, name, program):
+def build(room, name, program):
     """A program in a module of its own, which is vetted; tells its path."""
     folder = pathlib.Path(room, name)
     folder.mkdir()
     (folder / "main.go").write_text(program, encoding="utf-8")
-    done(folder, "go", "mod", "init", name)
-    done(folder, *re.search(r"^go mod edit [^#\n]*", PAGE, re.M)[0].replace("$R", str(TOP)).split())
-    if unlike := done(folder, "gofmt", "-l", "."):
+    call(folder, "go", "mod", "init", name)
+    call(folder, *re.search(r"^go mod edit [^#\n]*", PAGE, re.M)[0].replace("$R", str(TOP)).split())
+    if unlike := call(folder, "gofmt", "-l", "."):
         sys.exit(f"{unlike} of {name} is not as gofmt has it")
-    done(folder, "go", "vet", ".")
-    done(folder, "go", "build", "-o", "program", ".")
+    call(folder, "go", "vet", ".")
+    call(folder, "go", "build", "-o", "program", ".")
     return str(folder / "program")
 
 
@@ -87,13 +87,13 @@ def free_port():
 
 def posted(room, gateway):
     """Services post to the gateway: one that it knows, and one that it does not."""
-    service = built(room, "service", SERVICE)
+    service = build(room, "service", SERVICE)
     port = free_port()
     url = f"http://127.0.0.1:{port}"
-    with subprocess.Popen([built(room, "gateway", gateway.replace("9464", str(port)))]) as server:
+    with subprocess.Popen([build(room, "gateway", gateway.replace("9464", str(port)))]) as server:
         try:
             answered(f"{url}/metrics")
-            told = [done(room, service, f"{url}/v1/metrics", name) for name in ("shop", "thief")]
+            told = [call(room, service, f"{url}/v1/metrics", name) for name in ("shop", "thief")]
             malformed, page = answered(f"{url}/v1/metrics", b"\n\5"), answered(f"{url}/metrics")
         finally:
             server.terminate()
@@ -107,7 +107,7 @@ def main():
     first, gateway = re.findall(r"^```go\n(.*?)^```$", PAGE, re.M | re.S)
     printed = re.search(r"^```text\n(.*?)^```$", PAGE, re.M | re.S)[1]
     with tempfile.TemporaryDirectory() as room:
-        told = done(room, built(room, "first", first))
+        told = call(room, build(room, "first", first))
         if told != printed:
             sys.exit(f"it prints\n{told}")
         posted(room, gateway)

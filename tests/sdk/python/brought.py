@@ -25,9 +25,9 @@ TIMEOUT, LONG, MOST = 0.5, 5, 30
 
 def export_of(total):
     """An export of one counter."""
-    it = MeterProvider({"service.name": "shop"}, shutdown_on_exit=False)
-    it.get_meter("app").create_counter("requests").add(total)
-    return it.collect()
+    provider = MeterProvider({"service.name": "shop"}, shutdown_on_exit=False)
+    provider.get_meter("app").create_counter("requests").add(total)
+    return provider.collect()
 
 
 def read_request(peer):
@@ -35,7 +35,7 @@ def read_request(peer):
     other side has not got yet of the answer; and a client sends its head and its body each by itself."""
     with peer.makefile("rb") as request:
         head = iter(lambda: request.readline().strip(), b"")
-        lengths = [int(it.split(b":")[1]) for it in head if it.lower().startswith(b"content-length:")]
+        lengths = [int(line.split(b":")[1]) for line in head if line.lower().startswith(b"content-length:")]
         request.read(sum(lengths))
 
 
@@ -48,8 +48,8 @@ def answering(*pieces, pause=0.0):
                 peer, _ = server.accept()
                 with peer, contextlib.suppress(OSError):
                     read_request(peer)
-                    for it in pieces:
-                        peer.sendall(it)
+                    for piece in pieces:
+                        peer.sendall(piece)
                         time.sleep(pause)
 
     with socket.create_server(("127.0.0.1", 0)) as server:
@@ -64,7 +64,7 @@ def answering(*pieces, pause=0.0):
 
 
 def by_bytes(of):
-    return [of[it : it + 1] for it in range(len(of))]
+    return [of[place : place + 1] for place in range(len(of))]
 
 
 class Posts(unittest.TestCase):
@@ -211,8 +211,8 @@ class Children(unittest.TestCase):
             done = subprocess.run([sys.executable, "-B", script], env=given, capture_output=True, text=True, timeout=1800, check=False)
             self.assertEqual((done.returncode, done.stderr), (0, ""))
             gateway = Gateway(1)
-            for it in exports.iterdir():
-                gateway.take(Export.decode(it.read_bytes()))
+            for path in exports.iterdir():
+                gateway.take(Export.decode(path.read_bytes()))
             rows = {tuple(row.attributes.values()): (row.points, row.total) for row in gateway.rows(Ask.sum("app", "requests", ""))}
             return rows, len(gateway.incarnations())
 

@@ -35,7 +35,7 @@ def value(of):
 
 
 def pairs(of):
-    return [(text(key), value(it)) for key, it in of]
+    return [(text(key), value(given)) for key, given in of]
 
 
 def kind(of):
@@ -46,8 +46,8 @@ def view(of):
     aggregation = of.get("aggregation")
     if isinstance(aggregation, dict):
         aggregation = aggregation["buckets"]
-    given = {it: text(of[it]) for it in ("name", "scope", "rename") if it in of}
-    keep = [text(it) for it in of["keep"]] if "keep" in of else None
+    given = {word: text(of[word]) for word in ("name", "scope", "rename") if word in of}
+    keep = [text(key) for key in of["keep"]] if "keep" in of else None
     of_kind = kind(of["kind"]) if "kind" in of else None
     return View(kind=of_kind, keep=keep, aggregation=AGGREGATIONS.get(str(aggregation), aggregation), **given)
 
@@ -62,7 +62,7 @@ class Run:
         if "stream" in of:
             made = Ask.stream(self.things[of["streams_of"]].streams(), of["stream"])
         else:
-            words, shape = [text(of[it]) for it in ("scope", "name", "unit")], of["shape"]
+            words, shape = [text(of[word]) for word in ("scope", "name", "unit")], of["shape"]
             if isinstance(shape, dict):
                 made = Ask.histogram(*words, shape["bounds"])
             else:
@@ -72,7 +72,7 @@ class Run:
         if "only" in of:
             made.only(pairs(of["only"]))
         if "keep" in of:
-            made.keep([text(it) for it in of["keep"]])
+            made.keep([text(key) for key in of["keep"]])
         return made
 
     def bytes(self, of):
@@ -82,251 +82,251 @@ class Run:
         if name := step.get("as"):
             self.things[name] = made
 
-    def plan(self, it):
-        instruments = [(text(scope), text(name), text(unit), kind(of)) for scope, name, unit, of in it["instruments"]]
-        views = map(view, it.get("views", ()))
-        self.make(it, Plan(instruments, views=views, **({"limit": it["limit"]} if "limit" in it else {})))
+    def plan(self, step):
+        instruments = [(text(scope), text(name), text(unit), kind(of)) for scope, name, unit, of in step["instruments"]]
+        views = map(view, step.get("views", ()))
+        self.make(step, Plan(instruments, views=views, **({"limit": step["limit"]} if "limit" in step else {})))
 
-    def set(self, it):
-        self.make(it, Attributes(pairs(it["pairs"])))
+    def set(self, step):
+        self.make(step, Attributes(pairs(step["pairs"])))
 
-    def pairs(self, it):
-        return [list(pair) for pair in self.things[it["of"]].pairs()]
+    def pairs(self, step):
+        return [list(pair) for pair in self.things[step["of"]].pairs()]
 
-    def writer(self, it):
-        self.make(it, Writer(self.things[it["plan"]], text(it["service"]), it["instance"], it["start"]))
+    def writer(self, step):
+        self.make(step, Writer(self.things[step["plan"]], text(step["service"]), step["instance"], step["start"]))
 
-    def measure(self, it):
-        self.things[it["by"]].measure(it["instrument"], self.things[it["set"]], it["value"])
+    def measure(self, step):
+        self.things[step["by"]].measure(step["instrument"], self.things[step["set"]], step["value"])
 
-    def hold(self, it):
-        return self.things[it["by"]].hold(it["instrument"], self.things[it["set"]])
+    def hold(self, step):
+        return self.things[step["by"]].hold(step["instrument"], self.things[step["set"]])
 
-    def measure_held(self, it):
-        self.things[it["by"]].measure_held(it["number"], it["value"])
+    def measure_held(self, step):
+        self.things[step["by"]].measure_held(step["number"], step["value"])
 
-    def collect(self, it):
-        self.make(it, self.things[it["by"]].collect(it["time"]))
+    def collect(self, step):
+        self.make(step, self.things[step["by"]].collect(step["time"]))
 
-    def shutdown(self, it):
-        self.make(it, self.things[it["by"]].shutdown(it["time"]))
+    def shutdown(self, step):
+        self.make(step, self.things[step["by"]].shutdown(step["time"]))
 
-    def restart(self, it):
-        self.things[it["by"]].restart(it["start"])
+    def restart(self, step):
+        self.things[step["by"]].restart(step["start"])
 
-    def recorder(self, it):
-        self.make(it, Recorder(it["capacity"]))
+    def recorder(self, step):
+        self.make(step, Recorder(step["capacity"]))
 
-    def length(self, it):
-        return len(self.things[it["of"]])
+    def length(self, step):
+        return len(self.things[step["of"]])
 
-    def clear(self, it):
-        self.things[it["of"]].clear()
+    def clear(self, step):
+        self.things[step["of"]].clear()
 
-    def take_in(self, it):
-        told = self.things[it["by"]].take_in(self.things[it["recorder"]], it.get("most"))
+    def take_in(self, step):
+        told = self.things[step["by"]].take_in(self.things[step["recorder"]], step.get("most"))
         made = {"recorded": told.recorded, "refused": told.refused}
         if told.why:
             made |= {"first": told.first, "code": told.why.name}
             made |= {"place": told.why.place} if told.why.place is not None else {}
         return made
 
-    def share(self, it):
-        self.make(it, self.things[it["by"]].share())
+    def share(self, step):
+        self.make(step, self.things[step["by"]].share())
 
-    def split(self, it):
-        for _ in range(it.get("times", 1)):
-            self.make(it, self.things[it["by"]].split())
+    def split(self, step):
+        for _ in range(step.get("times", 1)):
+            self.make(step, self.things[step["by"]].split())
 
-    def export(self, it):
-        return self.things[it["of"]].head()._asdict()
+    def export(self, step):
+        return self.things[step["of"]].head()._asdict()
 
-    def gateway(self, it):
-        self.make(it, Gateway(it["id"]))
+    def gateway(self, step):
+        self.make(step, Gateway(step["id"]))
 
-    def gateway_read(self, it):
-        return dict(zip(("id", "points"), self.things[it["of"]].head()))
+    def gateway_read(self, step):
+        return dict(zip(("id", "points"), self.things[step["of"]].head()))
 
-    def take(self, it):
-        taking = self.things[it["by"]].take(self.things[it["export"]])
-        if taking.is_late != it.get("late", taking.is_late):
+    def take(self, step):
+        taking = self.things[step["by"]].take(self.things[step["export"]])
+        if taking.is_late != step.get("late", taking.is_late):
             raise AssertionError(taking)
         return taking.changed
 
-    def merge_bytes(self, it):
-        return self.things[it["by"]].merge_bytes(self.bytes(it["bytes"]))
+    def merge_bytes(self, step):
+        return self.things[step["by"]].merge_bytes(self.bytes(step["bytes"]))
 
-    def merge(self, it):
-        return self.things[it["by"]].merge(self.things[it["from"]])
+    def merge(self, step):
+        return self.things[step["by"]].merge(self.things[step["from"]])
 
-    def conflicts(self, it):
-        return self.things[it["of"]].conflicts()
+    def conflicts(self, step):
+        return self.things[step["of"]].conflicts()
 
-    def same(self, it):
-        return self.things[it["of"]].same(self.things[it["and"]])
+    def same(self, step):
+        return self.things[step["of"]].same(self.things[step["and"]])
 
-    def newest(self, it):
-        return self.things[it["of"]].newest(text(it["service"]), it["instance"], it["start"])
+    def newest(self, step):
+        return self.things[step["of"]].newest(text(step["service"]), step["instance"], step["start"])
 
-    def streams(self, it):
+    def streams(self, step):
         told = []
-        for scope, name, unit, shape, bounds in self.things[it["of"]].streams():
-            word = next((word for word, it in SHAPES.items() if it is shape), {"bounds": list(bounds)})
+        for scope, name, unit, shape, bounds in self.things[step["of"]].streams():
+            word = next((word for word, known in SHAPES.items() if known is shape), {"bounds": list(bounds)})
             told.append([scope, name, unit, word])
         return told
 
-    def rows(self, it):
-        rows = self.things[it["of"]].rows(self.ask(it["ask"]))
-        if "table" in it and rows.table() != it["table"]:
+    def rows(self, step):
+        rows = self.things[step["of"]].rows(self.ask(step["ask"]))
+        if "table" in step and rows.table() != step["table"]:
             raise AssertionError(f"the table is {rows.table()!r}")
-        told = [{key: it for key, it in vars(row).items() if it is not None} for row in rows]
-        return [it | {"attributes": [list(pair) for pair in rows.attributes(number)]} for number, it in enumerate(map(self.listed, told))]
+        told = [{key: value for key, value in vars(row).items() if value is not None} for row in rows]
+        return [row | {"attributes": [list(pair) for pair in rows.attributes(number)]} for number, row in enumerate(map(self.listed, told))]
 
     @staticmethod
     def listed(row):
         return row | {"buckets": list(row["buckets"])} if "buckets" in row else row
 
-    def row(self, it):
-        rows = self.things[it["of"]].rows(self.ask(it["ask"]))
+    def row(self, step):
+        rows = self.things[step["of"]].rows(self.ask(step["ask"]))
         # (numbers and buckets of a row come together here)
-        rows.attributes(it["row"]) if it["call"] == "attributes" else rows[it["row"]]
+        rows.attributes(step["row"]) if step["call"] == "attributes" else rows[step["row"]]
 
-    def incarnations(self, it):
-        return [one._asdict() for one in self.things[it["of"]].incarnations()]
+    def incarnations(self, step):
+        return [one._asdict() for one in self.things[step["of"]].incarnations()]
 
-    def services(self, it):
-        return self.things[it["of"]].services()
+    def services(self, step):
+        return self.things[step["of"]].services()
 
-    def otlp(self, it):
-        self.make(it, self.things[it["of"]].otlp())
+    def otlp(self, step):
+        self.make(step, self.things[step["of"]].otlp())
 
-    def of_otlp(self, it):
-        made = Export.of_otlp(self.bytes(it["bytes"]))
-        self.things |= dict(zip(it["as"], made))
+    def of_otlp(self, step):
+        made = Export.of_otlp(self.bytes(step["bytes"]))
+        self.things |= dict(zip(step["as"], made))
         return len(made)
 
-    def page(self, it):
-        told = getattr(self.things[it["of"]], it["format"])(text(it["service"]) if "service" in it else None)
-        if set(it["has"]) - set(told.splitlines()) or any(lacked in told for lacked in it["lacks"]):
+    def page(self, step):
+        told = getattr(self.things[step["of"]], step["format"])(text(step["service"]) if "service" in step else None)
+        if set(step["has"]) - set(told.splitlines()) or any(lacked in told for lacked in step["lacks"]):
             raise AssertionError(f"the page is {told!r}")
 
-    def send(self, it):
-        self.make(it, self.things[it["by"]].send(it["to"]))
+    def send(self, step):
+        self.make(step, self.things[step["by"]].send(step["to"]))
 
-    def hand(self, it):
-        answer = self.things[it["by"]].hand(self.things[it["message"]])
-        if (answer is None) != (it.get("answer") is None):
+    def hand(self, step):
+        answer = self.things[step["by"]].hand(self.things[step["message"]])
+        if (answer is None) != (step.get("answer") is None):
             raise AssertionError(f"the answer is {answer}")
-        self.things[it.get("answer")] = answer
+        self.things[step.get("answer")] = answer
 
-    def message(self, it):
-        return dict(zip(("from", "to", "points"), self.things[it["of"]].envelope()))
+    def message(self, step):
+        return dict(zip(("from", "to", "points"), self.things[step["of"]].envelope()))
 
-    def archive(self, it):
+    def archive(self, step):
         made = Archive.__new__(Archive)
-        made._begin(text(it["service"]), it["limit"], it["instance"], it["start"])
-        self.make(it, made)
+        made._begin(text(step["service"]), step["limit"], step["instance"], step["start"])
+        self.make(step, made)
 
-    def adopt(self, it):
-        self.things[it["by"]].adopt(self.things[it["gateway"]], text(it["service"]), it["instance"], it["start"])
+    def adopt(self, step):
+        self.things[step["by"]].adopt(self.things[step["gateway"]], text(step["service"]), step["instance"], step["start"])
 
-    def archive_export(self, it):
-        self.make(it, self.things[it["by"]].export(it["time"]))
+    def archive_export(self, step):
+        self.make(step, self.things[step["by"]].export(step["time"]))
 
-    def seal(self, it):
-        self.things[it["by"]].seal(it["start"])
+    def seal(self, step):
+        self.things[step["by"]].seal(step["start"])
 
-    def archive_read(self, it):
-        archive = self.things[it["of"]]
+    def archive_read(self, step):
+        archive = self.things[step["of"]]
         return {"start": archive.start, "adopted": archive.adopted}
 
-    def encode(self, it):
-        self.make(it, self.things[it["of"]].encode())
+    def encode(self, step):
+        self.make(step, self.things[step["of"]].encode())
 
-    def decode(self, it):
+    def decode(self, step):
         kinds = {"export": Export, "message": Message}
-        self.make(it, kinds[it["what"]].decode(self.bytes(it["bytes"])))
+        self.make(step, kinds[step["what"]].decode(self.bytes(step["bytes"])))
 
-    def bytes_(self, it):
-        made = bytearray(self.bytes(it["of"]))
-        for place, byte in it.get("set", ()):
+    def bytes_(self, step):
+        made = bytearray(self.bytes(step["of"]))
+        for place, byte in step.get("set", ()):
             made[place] = byte
-        made = made[: it.get("cut", len(made))] + bytes.fromhex(it.get("add", ""))
-        if it.get("checksum"):
+        made = made[: step.get("cut", len(made))] + bytes.fromhex(step.get("add", ""))
+        if step.get("checksum"):
             made[-4:] = zlib.adler32(made[:-4]).to_bytes(4, "big")
-        self.make(it, bytes(made))
+        self.make(step, bytes(made))
 
-    def bytes_are(self, it):
-        if (told := self.things[it["of"]].hex()) != it["hex"]:
+    def bytes_are(self, step):
+        if (told := self.things[step["of"]].hex()) != step["hex"]:
             raise AssertionError(f"the bytes are {told}")
 
-    def close(self, it):
-        self.things[it["of"]].close()
+    def close(self, step):
+        self.things[step["of"]].close()
 
-    def threads(self, it):
-        by, taken, failed = self.things[it["by"]], [], []
-        works = {"recorder": lambda: self.by_recorder(it, by, taken), "seat": lambda: self.by_seat(it, seats.pop())}
-        seats = [by.split() for _ in range(it["threads"])] if it["with"] == "seat" else []
+    def threads(self, step):
+        by, taken, failed = self.things[step["by"]], [], []
+        works = {"recorder": lambda: self.by_recorder(step, by, taken), "seat": lambda: self.by_seat(step, seats.pop())}
+        seats = [by.split() for _ in range(step["threads"])] if step["with"] == "seat" else []
 
         def work():
             try:
-                works[it["with"]]()
+                works[step["with"]]()
             except BaseException as fault:
                 failed.append(fault)
 
-        threads = [threading.Thread(target=work) for _ in range(it["threads"])]
+        threads = [threading.Thread(target=work) for _ in range(step["threads"])]
         for thread in threads:
             thread.start()
         for thread in threads:
             thread.join()
         if failed:
             raise failed[0]
-        told = sum(it.recorded for it in taken), sum(it.refused for it in taken)
-        if it["with"] == "recorder" and told != (it["threads"] * it["each"], 0):
+        told = sum(each.recorded for each in taken), sum(each.refused for each in taken)
+        if step["with"] == "recorder" and told != (step["threads"] * step["each"], 0):
             raise AssertionError(taken)
 
-    def by_recorder(self, it, writer, taken):
-        recorder, none = Recorder(it["capacity"]), self.things[it["set"]]
-        for turn in range(it["each"]):
+    def by_recorder(self, step, writer, taken):
+        recorder, none = Recorder(step["capacity"]), self.things[step["set"]]
+        for turn in range(step["each"]):
             while True:
                 try:
-                    recorder.measure_held(it["number"], 1) if turn % 2 else recorder.measure(it["instrument"], none, 1)
+                    recorder.measure_held(step["number"], 1) if turn % 2 else recorder.measure(step["instrument"], none, 1)
                     break
                 except RecorderFull:
                     taken.append(writer.take_in(recorder))
         taken.append(writer.take_in(recorder))
 
-    def by_seat(self, it, seat):
-        for turn in range(it["each"]):
+    def by_seat(self, step, seat):
+        for turn in range(step["each"]):
             while True:
                 try:
-                    seat.measure_held(it["number"], 1) if turn % 2 else seat.measure(it["instrument"], self.things[it["set"]], 1)
+                    seat.measure_held(step["number"], 1) if turn % 2 else seat.measure(step["instrument"], self.things[step["set"]], 1)
                     break
                 except Busy:
                     pass
 
-    def fill(self, it):
-        for number in range(it["sets"]):
-            self.things[it["by"]].measure(it["instrument"], Attributes({it["key"]: number}), 1)
+    def fill(self, step):
+        for number in range(step["sets"]):
+            self.things[step["by"]].measure(step["instrument"], Attributes({step["key"]: number}), 1)
 
-    def decode_often(self, it):
+    def decode_often(self, step):
         before = 0
         for turn in itertools.count():
-            self.things[it["by"]].take(Export.decode(self.things[it["bytes"]]))
-            if turn == it["times"] // 10:
+            self.things[step["by"]].take(Export.decode(self.things[step["bytes"]]))
+            if turn == step["times"] // 10:
                 before = resource.getrusage(resource.RUSAGE_SELF).ru_maxrss
-            if turn == it["times"]:
+            if turn == step["times"]:
                 break
         grown = (resource.getrusage(resource.RUSAGE_SELF).ru_maxrss - before) / 1024
-        if grown > it["most_megabytes"]:
+        if grown > step["most_megabytes"]:
             raise AssertionError(f"the process grew by {grown:.0f} MB")
 
-    def step(self, it):
+    def step(self, step):
         """Performs a step, and tells what is other than it says."""
-        call = getattr(self, {"bytes": "bytes_"}.get(it["do"], it["do"]))
-        wanted = it.get("refused") or ("out of range" if it.get("out_of_range") else None)
+        call = getattr(self, {"bytes": "bytes_"}.get(step["do"], step["do"]))
+        wanted = step.get("refused") or ("out of range" if step.get("out_of_range") else None)
         try:
-            told = call(it)
+            told = call(step)
         except Refused as fault:
             places = {"place": fault.place, "second": fault.second}
             told = {"code": fault.name} | {word: place for word, place in places.items() if place is not None}
@@ -339,7 +339,7 @@ class Run:
             return repr(fault)
         if wanted:
             return f"it is not refused as {wanted}"
-        if "is" in it and (told != it["is"] or type(told) is not type(it["is"])):
+        if "is" in step and (told != step["is"] or type(told) is not type(step["is"])):
             return f"it answers {told!r}"
         return None
 

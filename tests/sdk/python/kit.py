@@ -174,7 +174,7 @@ class Identities(unittest.TestCase):
     def test_instances_are_drawn_anew(self):
         plan = Plan(INSTRUMENTS)
         writers = [Writer(plan, "shop") for _ in range(8)]
-        self.assertEqual(len({it.instance for it in writers}), 8)
+        self.assertEqual(len({writer.instance for writer in writers}), 8)
         gateway = Gateway(1)
         for writer in writers:
             writer.measure(0, Attributes(), 1)
@@ -193,7 +193,7 @@ class Identities(unittest.TestCase):
 
     def test_archives_draw_theirs(self):
         archives = [Archive("shop", 10) for _ in range(8)]
-        self.assertEqual(len({it.instance for it in archives}), 8)
+        self.assertEqual(len({archive.instance for archive in archives}), 8)
         for archive in archives:
             head = archive.export(archive.start + 1).head()
             self.assertEqual((head.instance, head.start), (archive.instance, 1))
@@ -342,12 +342,12 @@ class Archives(unittest.TestCase):
             except BaseException as fault:
                 failed.append(fault)
 
-        threads = [threading.Thread(target=work, args=(it,)) for it in range(4)]
+        threads = [threading.Thread(target=work, args=(number,)) for number in range(4)]
         for thread in threads:
             thread.start()
         for thread in threads:
             thread.join(120)
-        self.assertEqual((failed, [it.is_alive() for it in threads], self.archive.adopted), ([], [False] * 4, 4 * often))
+        self.assertEqual((failed, [thread.is_alive() for thread in threads], self.archive.adopted), ([], [False] * 4, 4 * often))
         self.gateway.take(self.archive.export(2000))
         self.assertEqual(self.gateway.head(), (1, 4 * often + 1))
         self.assertTrue(self.gateway.sum("app", "requests", "1").endswith(f"  {7 * 4 * often}\n"))
@@ -374,7 +374,7 @@ class Declared(unittest.TestCase):
     def test_codes(self):
         self.assertEqual([kotskhin.code_text(number) for _, number, _, _ in CODES], [says for _, _, says, _ in CODES])
         numbers = {number for _, number, _, _ in CODES}
-        self.assertEqual({kotskhin.code_text(it) for it in range(-2, 256) if it not in numbers}, {""})
+        self.assertEqual({kotskhin.code_text(number) for number in range(-2, 256) if number not in numbers}, {""})
         self.assertEqual(len({says for _, _, says, _ in CODES}), len(CODES))
 
     def test_each_code_has_a_class_of_its_name(self):
@@ -415,7 +415,7 @@ class Lives(unittest.TestCase):
             writer.measure(number, Attributes({"n": number}), number + 1)
         gateway.take(writer.collect(200))
         streams = gateway.streams()
-        self.assertEqual([it.name for it in streams], ["balance", "depth", "requests", "size"])
+        self.assertEqual([stream.name for stream in streams], ["balance", "depth", "requests", "size"])
         self.assertEqual(len(list(reversed(streams))), 4)
         rows = gateway.rows(Ask.histogram("app", "size", "By"))
         self.assertEqual([(row.attributes, row.count, row.total) for row in rows], [({"n": 2}, 1, 3)])
@@ -433,7 +433,7 @@ class Lives(unittest.TestCase):
             Ask.sum("app", "requests", "1").keep("route")
         with self.assertRaises(TypeError):
             View(keep="route")
-        view = View("requests", keep=(it for it in ["route"]))
+        view = View("requests", keep=(key for key in ["route"]))
         for _ in range(2):
             writer, gateway = Writer(Plan(INSTRUMENTS, views=[view]), "shop", 1, 100), Gateway(1)
             writer.measure(0, Attributes({"route": "/", "user": 5}), 1)
@@ -499,7 +499,7 @@ class Lives(unittest.TestCase):
             goes.set()
         for thread in threads:
             thread.join()
-        self.assertEqual([len(it) for it in recorders], [1, 1])
+        self.assertEqual([len(recorder) for recorder in recorders], [1, 1])
 
     def test_many_threads_ask_and_take(self):
         """Gateways are merged into each other from threads, which ask them meanwhile."""
@@ -519,12 +519,12 @@ class Lives(unittest.TestCase):
             except BaseException as fault:
                 failed.append(fault)
 
-        threads = [threading.Thread(target=work, args=(it,)) for it in range(4)]
+        threads = [threading.Thread(target=work, args=(number,)) for number in range(4)]
         for thread in threads:
             thread.start()
         for thread in threads:
             thread.join(120)
-        self.assertEqual((failed, [it.is_alive() for it in threads]), ([], [False] * 4))
+        self.assertEqual((failed, [thread.is_alive() for thread in threads]), ([], [False] * 4))
         self.assertTrue(gateways[0].same(gateways[1]))
 
 

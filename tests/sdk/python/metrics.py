@@ -24,13 +24,14 @@ import kotskhin
 from kotskhin import Ask, Export, Gateway
 from kotskhin.metrics import (
     ConsoleMetricExporter, Counter, DropAggregation, ExplicitBucketHistogramAggregation, ExportFailed, FileExporter, FirstOf,
-    Histogram, HttpExporter, HttpRefused, MeterProvider, NotTaken, PeriodicExportingMetricReader, ProviderStarted, Resource, SumAggregation, View,
+    Histogram, HttpExporter, HttpRefused, MeterProvider, NotTaken, PeriodicExportingMetricReader, ProviderStarted, Resource,
+    SumAggregation, View,
 )
 
 SHOP = {"service.name": "shop"}
 
 
-def provider(*readers, **given):
+def make_provider(*readers, **given):
     return MeterProvider(SHOP, readers, shutdown_on_exit=False, **given)
 
 
@@ -53,7 +54,7 @@ def totals(of, name="requests"):
 class Recording(unittest.TestCase):
     def setUp(self):
         self.refused = []
-        self.provider = provider(on_refused=self.refused.append)
+        self.provider = make_provider(on_refused=self.refused.append)
         self.meter = self.provider.get_meter("app", "1.0")
         self.requests = self.meter.create_counter("requests")
 
@@ -103,7 +104,7 @@ class Recording(unittest.TestCase):
         for turn in range(2):
             for value, attributes, _ in wrong:
                 self.requests.add(value, attributes)
-        self.assertEqual([type(it.why) for it in self.refused], [why for _, _, why in wrong] * 2)
+        self.assertEqual([type(refusal.why) for refusal in self.refused], [why for _, _, why in wrong] * 2)
         self.assertEqual((self.provider.refused, self.refused[0].instrument, self.refused[0].value), (26, self.requests, -1))
         self.assertEqual(self.refused[9].why.place, 0)
         self.requests.add((1 << 63) - 1)
@@ -116,12 +117,12 @@ class Recording(unittest.TestCase):
         self.assertIsNone(self.provider.collect())
 
     def test_a_hook_that_fails_fails_nothing(self):
-        with provider(on_refused=lambda refusal: 1 / 0) as it, self.assertLogs("kotskhin", logging.ERROR):
-            it.get_meter("app").create_counter("requests").add(-1)
+        with make_provider(on_refused=lambda refusal: 1 / 0) as provider, self.assertLogs("kotskhin", logging.ERROR):
+            provider.get_meter("app").create_counter("requests").add(-1)
 
     def test_without_a_hook_each_kind_is_logged_once(self):
-        with provider() as it, self.assertLogs("kotskhin", logging.WARNING) as logged:
-            requests = it.get_meter("app").create_counter("requests")
+        with make_provider() as provider, self.assertLogs("kotskhin", logging.WARNING) as logged:
+            requests = provider.get_meter("app").create_counter("requests")
             for _ in range(5):
                 requests.add(-1)
                 requests.add(1.5)
@@ -141,29 +142,29 @@ class Recording(unittest.TestCase):
 
 class Declaring(unittest.TestCase):
     def test_after_the_start(self):
-        it = provider()
-        meter = it.get_meter("app")
+        provider = make_provider()
+        meter = provider.get_meter("app")
         requests = meter.create_counter("requests")
         self.assertIs(meter.create_counter("Requests"), requests)
         requests.add(1)
-        self.assertIs(it.get_meter("app").create_counter("requests"), requests)
+        self.assertIs(provider.get_meter("app").create_counter("requests"), requests)
         with self.assertRaisesRegex(ProviderStarted, r"'orders' of 'app' is declared at .*metrics\.py:\d+, after .* at .*metrics\.py:\d+"):
             meter.create_counter("orders")
-        it.shutdown()
+        provider.shutdown()
 
     def test_an_explicit_start(self):
-        it = provider()
-        requests = it.get_meter("app").create_counter("requests")
-        self.assertIsNone(it.collect())
-        it.start()
-        it.start()
-        self.assertEqual(totals(it), [])
+        provider = make_provider()
+        requests = provider.get_meter("app").create_counter("requests")
+        self.assertIsNone(provider.collect())
+        provider.start()
+        provider.start()
+        self.assertEqual(totals(provider), [])
         requests.add(1)
-        self.assertEqual(totals(it), [({}, 1)])
-        self.assertEqual([stream.name for stream in it.streams], ["requests"])
+        self.assertEqual(totals(provider), [({}, 1)])
+        self.assertEqual([stream.name for stream in provider.streams], ["requests"])
 
     def test_what_is_wrong_is_refused_at_once(self):
-        meter = provider().get_meter("app")
+        meter = make_provider().get_meter("app")
         for name, unit, why in (("9 lives", "", kotskhin.BadName), ("", "", kotskhin.BadName), ("fine", "µ", kotskhin.BadUnit)):
             with self.assertRaises(why) as caught:
                 meter.create_counter(name, unit)
@@ -172,29 +173,29 @@ class Declaring(unittest.TestCase):
         with self.assertRaises(kotskhin.BadBounds):
             meter.create_histogram("size", explicit_bucket_boundaries_advisory=[2, 1])
         with self.assertRaises(kotskhin.BadLimit):
-            provider(limit=0)
+            make_provider(limit=0)
         with self.assertRaises(ValueError):
             View(instrument_name="req*")
         with self.assertRaises(TypeError):
             PeriodicExportingMetricReader(5)
 
     def test_no_meter_has_the_scope_of_tombstones(self):
-        it = provider()
-        requests, archive = it.get_meter("app").create_counter("requests"), it.get_meter("kotskhin.archive")
+        provider = make_provider()
+        requests, archive = provider.get_meter("app").create_counter("requests"), provider.get_meter("kotskhin.archive")
         for declare in (archive.create_counter, archive.create_up_down_counter, archive.create_gauge, archive.create_histogram):
             with self.assertRaises(kotskhin.ReservedScope) as caught:
                 declare("adopted", "ns")
             self.assertEqual((caught.exception.place, caught.exception.second), (0, None))
         requests.add(3)
-        self.assertEqual(totals(it), [({}, 3)])
-        self.assertEqual([stream.scope for stream in it.streams], ["app"])
+        self.assertEqual(totals(provider), [({}, 3)])
+        self.assertEqual([stream.scope for stream in provider.streams], ["app"])
 
     def test_resources(self):
         drawn = uuid.uuid4()
         for instance in (drawn, str(drawn), drawn.int):
-            it = MeterProvider(Resource.create({**SHOP, "service.instance.id": instance}), shutdown_on_exit=False)
-            self.assertEqual((it.service, it.instance), ("shop", drawn.int))
-        self.assertNotEqual(provider().instance, provider().instance)
+            provider = MeterProvider(Resource.create({**SHOP, "service.instance.id": instance}), shutdown_on_exit=False)
+            self.assertEqual((provider.service, provider.instance), ("shop", drawn.int))
+        self.assertNotEqual(make_provider().instance, make_provider().instance)
         self.assertEqual(MeterProvider(shutdown_on_exit=False).service, "unknown_service")
         with self.assertRaisesRegex(ValueError, "host.name"):
             MeterProvider({"host.name": "h"})
@@ -205,25 +206,25 @@ class Declaring(unittest.TestCase):
 
     def test_views(self):
         by_route = View(instrument_type=Histogram, instrument_name="size", meter_name="app", name="size.by.route",
-                        attribute_keys=(it for it in ["route"]), aggregation=ExplicitBucketHistogramAggregation(it for it in [10]))
+                        attribute_keys=(key for key in ["route"]), aggregation=ExplicitBucketHistogramAggregation(bound for bound in [10]))
         views = [by_route, View(instrument_name="gone", aggregation=DropAggregation()),
                  View(instrument_name="size", aggregation=SumAggregation()), View(instrument_type=Counter, instrument_name="absent")]
-        it = provider(views=views)
-        size = it.get_meter("app").create_histogram("size", explicit_bucket_boundaries_advisory=[1, 2, 3])
-        gone = it.get_meter("app").create_counter("gone")
+        provider = make_provider(views=views)
+        size = provider.get_meter("app").create_histogram("size", explicit_bucket_boundaries_advisory=[1, 2, 3])
+        gone = provider.get_meter("app").create_counter("gone")
         with self.assertLogs("kotskhin", logging.WARNING) as logged:
             size.record(5, {"route": "/", "status": 200})
         self.assertRegex(logged.output[0], "absent.* is of no instrument")
         gone.add(1)
-        told = [(stream.name, stream.shape, stream.bounds) for stream in it.streams]
+        told = [(stream.name, stream.shape, stream.bounds) for stream in provider.streams]
         self.assertEqual(told, [("size.by.route", kotskhin.Shape.HISTOGRAM, (10,)), ("size", kotskhin.Shape.MONOTONIC_SUM, ())])
-        self.assertEqual(rows_of(it.collect(), Ask.histogram("app", "size.by.route", "", [10])), [({"route": "/"}, 5)])
+        self.assertEqual(rows_of(provider.collect(), Ask.histogram("app", "size.by.route", "", [10])), [({"route": "/"}, 5)])
 
 
 class Logs(unittest.TestCase):
     def test_a_handler_of_logs_may_record(self):
-        it = provider(views=[View(instrument_name="absent")])
-        logs = it.get_meter("app").create_counter("logs")
+        provider = make_provider(views=[View(instrument_name="absent")])
+        logs = provider.get_meter("app").create_counter("logs")
 
         class Handler(logging.Handler):
             def emit(self, record):
@@ -236,32 +237,32 @@ class Logs(unittest.TestCase):
             logs.add(-1)
         finally:
             logging.getLogger("kotskhin").removeHandler(handler)
-        self.assertEqual((totals(it, "logs"), it.refused), ([({"level": "WARNING"}, 2)], 2))
+        self.assertEqual((totals(provider, "logs"), provider.refused), ([({"level": "WARNING"}, 2)], 2))
 
 
 class Bounds(unittest.TestCase):
     def test_sets_beyond_those_that_are_held(self):
-        it = provider(held=10)
-        requests = it.get_meter("app").create_counter("requests")
+        provider = make_provider(held=10)
+        requests = provider.get_meter("app").create_counter("requests")
         for turn in range(3):
             for number in range(100):
                 requests.add(1, {"n": number})
         self.assertEqual(len(requests._texts) + len(requests._held), 10)
-        self.assertEqual(totals(it), [({"n": number}, 3) for number in range(100)])
+        self.assertEqual(totals(provider), [({"n": number}, 3) for number in range(100)])
 
     def test_sets_beyond_the_limit(self):
-        it = provider(limit=2)
-        requests = it.get_meter("app").create_counter("requests")
+        provider = make_provider(limit=2)
+        requests = provider.get_meter("app").create_counter("requests")
         for number in (0, 1, 2, 3, 0):
             requests.add(1, {"n": number})
-        self.assertEqual(totals(it), [({"n": 0}, 2), ({"n": 1}, 1), ({"otel.metric.overflow": True}, 2)])
+        self.assertEqual(totals(provider), [({"n": 0}, 2), ({"n": 1}, 1), ({"otel.metric.overflow": True}, 2)])
 
 
 class Threads(unittest.TestCase):
     def test_totals_are_exact(self):
         exports = []
-        it = provider(PeriodicExportingMetricReader(lambda export: exports.append(export.head()), 5), held=20)
-        requests, size = it.get_meter("app").create_counter("requests"), it.get_meter("app").create_histogram("size")
+        provider = make_provider(PeriodicExportingMetricReader(lambda export: exports.append(export.head()), 5), held=20)
+        requests, size = provider.get_meter("app").create_counter("requests"), provider.get_meter("app").create_histogram("size")
 
         def work(number):
             for turn in range(2000):
@@ -279,19 +280,19 @@ class Threads(unittest.TestCase):
                 thread.join()
         finally:
             sys.setswitchinterval(switch)
-        told = totals(it)
+        told = totals(provider)
         self.assertEqual([total for attributes, total in told if "thread" in attributes], [2000] * 8)
         self.assertEqual([total for attributes, total in told if "turn" in attributes], [320] * 50)
-        self.assertEqual(rows_of(it.collect(), Ask.histogram("app", "size", "")), [({}, 8 * 1999 * 1000)])
-        it.shutdown()
+        self.assertEqual(rows_of(provider.collect(), Ask.histogram("app", "size", "")), [({}, 8 * 1999 * 1000)])
+        provider.shutdown()
         times = [head.time for head in exports]
-        self.assertEqual((times, it.refused), (sorted(set(times)), 0))
+        self.assertEqual((times, provider.refused), (sorted(set(times)), 0))
 
 
     def test_the_first_recordings_at_once(self):
         for _ in range(50):
-            it = provider()
-            instruments = [it.get_meter("app").create_counter(f"requests{number}") for number in range(4)]
+            provider = make_provider()
+            instruments = [provider.get_meter("app").create_counter(f"requests{number}") for number in range(4)]
             gate = threading.Barrier(4)
 
             def work():
@@ -304,8 +305,8 @@ class Threads(unittest.TestCase):
                 thread.start()
             for thread in threads:
                 thread.join()
-            told = [totals(it, f"requests{number}") for number in range(4)]
-            self.assertEqual((told, it.refused), ([[({"route": "/"}, 20)]] * 4, 0))
+            told = [totals(provider, f"requests{number}") for number in range(4)]
+            self.assertEqual((told, provider.refused), ([[({"route": "/"}, 20)]] * 4, 0))
 
 
 class Readers(unittest.TestCase):
@@ -317,28 +318,28 @@ class Readers(unittest.TestCase):
             if len(exports) == 3:
                 enough.set()
 
-        it = provider(PeriodicExportingMetricReader(export, 10))
-        requests = it.get_meter("app").create_counter("requests")
+        provider = make_provider(PeriodicExportingMetricReader(export, 10))
+        requests = provider.get_meter("app").create_counter("requests")
         time.sleep(0.05)
         self.assertEqual(exports, [])
         requests.add(7)
         self.assertTrue(enough.wait(60))
         requests.add(1)
-        it.shutdown()
-        it.shutdown()
+        provider.shutdown()
+        provider.shutdown()
         count = len(exports)
         time.sleep(0.05)
         self.assertEqual((len(exports), rows_of(Export.decode(exports[-1]), Ask.sum("app", "requests", ""))), (count, [({}, 8)]))
 
     def test_flushing(self):
         exports = []
-        it = provider(reader(exports.append), reader(exports.append))
-        it.force_flush()
+        provider = make_provider(reader(exports.append), reader(exports.append))
+        provider.force_flush()
         self.assertEqual(exports, [])
-        it.get_meter("app").create_counter("requests").add(1)
-        self.assertTrue(it.force_flush())
+        provider.get_meter("app").create_counter("requests").add(1)
+        self.assertTrue(provider.force_flush())
         self.assertEqual(len(exports), 2)
-        it.shutdown()
+        provider.shutdown()
         self.assertEqual(len(exports), 4)
 
     def test_failures_are_told(self):
@@ -347,23 +348,23 @@ class Readers(unittest.TestCase):
         def export(one):
             raise OSError("no route")
 
-        it = provider(reader(export, on_failed=faults.append))
-        it.get_meter("app").create_counter("requests").add(1)
+        provider = make_provider(reader(export, on_failed=faults.append))
+        provider.get_meter("app").create_counter("requests").add(1)
         with self.assertRaisesRegex(ExportFailed, "OSError: no route"):
-            it.force_flush()
+            provider.force_flush()
         with self.assertRaises(ExportFailed) as caught:
-            it.shutdown()
+            provider.shutdown()
         self.assertEqual((len(faults), [type(fault.why) for fault in faults]), (2, [OSError] * 2))
         self.assertEqual(rows_of(caught.exception.unsent, Ask.sum("app", "requests", "")), [({}, 1)])
 
     def test_without_a_hook_failures_are_logged(self):
-        it = provider(reader(lambda one: 1 / 0))
-        it.get_meter("app").create_counter("requests").add(1)
+        provider = make_provider(reader(lambda one: 1 / 0))
+        provider.get_meter("app").create_counter("requests").add(1)
         with self.assertLogs("kotskhin", logging.WARNING) as logged, self.assertRaises(ExportFailed):
-            it.force_flush()
+            provider.force_flush()
         self.assertIn("ZeroDivisionError", logged.output[0])
         with self.assertLogs("kotskhin"), contextlib.suppress(ExportFailed):
-            it.shutdown()
+            provider.shutdown()
 
     def test_an_export_that_takes_too_long(self):
         goes, faults, told = threading.Event(), [], threading.Event()
@@ -373,17 +374,17 @@ class Readers(unittest.TestCase):
             told.set()
 
         of = reader(lambda one: goes.wait(600), export_timeout_millis=20, on_failed=failed)
-        it = provider(of)
-        it.get_meter("app").create_counter("requests").add(1)
+        provider = make_provider(of)
+        provider.get_meter("app").create_counter("requests").add(1)
         began = time.monotonic()
         with self.assertRaises(ExportFailed) as caught:
-            it.force_flush(50)
+            provider.force_flush(50)
         self.assertIsInstance(caught.exception.why, TimeoutError)
         self.assertLess(time.monotonic() - began, 30)
         self.assertTrue(told.wait(60))
         self.assertIsInstance(faults[0].why, TimeoutError)
         goes.set()
-        it.shutdown()
+        provider.shutdown()
 
     def test_recording_waits_for_no_export(self):
         goes, came = threading.Event(), threading.Event()
@@ -392,16 +393,16 @@ class Readers(unittest.TestCase):
             came.set()
             goes.wait(60)
 
-        it = provider(PeriodicExportingMetricReader(export, 1))
-        requests = it.get_meter("app").create_counter("requests")
+        provider = make_provider(PeriodicExportingMetricReader(export, 1))
+        requests = provider.get_meter("app").create_counter("requests")
         requests.add(1)
         self.assertTrue(came.wait(60))
         for number in range(2000):
             requests.add(1, {"n": number % 10})
-        self.assertEqual(sum(total for _, total in totals(it)), 2001)
+        self.assertEqual(sum(total for _, total in totals(provider)), 2001)
         self.assertFalse(goes.is_set())
         goes.set()
-        it.shutdown()
+        provider.shutdown()
 
     def test_an_exporter_is_ended(self):
         ended = []
@@ -413,20 +414,20 @@ class Readers(unittest.TestCase):
             def shutdown(self):
                 ended.append("end")
 
-        it = provider(reader(Exporter(), export_timeout_millis=5000))
-        it.get_meter("app").create_counter("requests").add(1)
-        it.shutdown()
+        provider = make_provider(reader(Exporter(), export_timeout_millis=5000))
+        provider.get_meter("app").create_counter("requests").add(1)
+        provider.shutdown()
         self.assertEqual(ended, [5.0, "end"])
-        it = provider(reader(Exporter()))
-        it.shutdown()
+        provider = make_provider(reader(Exporter()))
+        provider.shutdown()
         self.assertEqual(ended, [5.0, "end", "end"])
 
     def test_a_clock_that_is_put_back(self):
-        it = provider()
-        it.get_meter("app").create_counter("requests").add(1)
-        one = it.collect().head().time
-        it._last_time = one + (1 << 50)
-        self.assertEqual(it.collect().head().time, one + (1 << 50) + 1)
+        provider = make_provider()
+        provider.get_meter("app").create_counter("requests").add(1)
+        one = provider.collect().head().time
+        provider._last_time = one + (1 << 50)
+        self.assertEqual(provider.collect().head().time, one + (1 << 50) + 1)
 
 
 @contextlib.contextmanager
@@ -520,15 +521,15 @@ class Answers(unittest.TestCase):
     def test_no_other_gateway_is_asked(self):
         failed = []
         with answering((503, b""), (200, b"", "1"), (200, b"")) as (urls, asked):
-            told = reader(FirstOf(*(HttpExporter(it, otlp=False) for it in urls)), on_failed=failed.append)
-            it = provider(told)
-            it.get_meter("app").create_counter("requests").add(7)
+            told = reader(FirstOf(*(HttpExporter(url, otlp=False) for url in urls)), on_failed=failed.append)
+            provider = make_provider(told)
+            provider.get_meter("app").create_counter("requests").add(7)
             for turn in (1, 2):
                 with self.assertRaisesRegex(ExportFailed, "NotTaken: 1 exports came late"):
-                    it.force_flush()
+                    provider.force_flush()
                 self.assertEqual(asked, [1, turn, 0])
             with self.assertRaises(ExportFailed) as last:
-                it.shutdown()
+                provider.shutdown()
         self.assertEqual([(type(fault.why), fault.why.exports) for fault in failed], [(NotTaken, 1)] * 3)
         self.assertEqual((told.failed, rows_of(last.exception.unsent, Ask.sum("app", "requests", ""))), (3, [({}, 7)]))
 
@@ -537,18 +538,18 @@ class Exporters(unittest.TestCase):
     def test_files(self):
         with tempfile.TemporaryDirectory() as room:
             path = pathlib.Path(room) / "shop.ktsk"
-            it = provider(reader(FileExporter(path)))
-            requests = it.get_meter("app").create_counter("requests")
+            provider = make_provider(reader(FileExporter(path)))
+            requests = provider.get_meter("app").create_counter("requests")
             for total in (1, 2):
                 requests.add(1)
-                it.force_flush()
+                provider.force_flush()
                 self.assertEqual(rows_of(Export.decode(path.read_bytes()), Ask.sum("app", "requests", "")), [({}, total)])
-            it.shutdown()
+            provider.shutdown()
             self.assertEqual(os.listdir(room), ["shop.ktsk"])
-            it = provider(reader(FileExporter(pathlib.Path(room) / "no" / "file"), on_failed=lambda fault: None))
-            it.get_meter("app").create_counter("requests").add(1)
+            provider = make_provider(reader(FileExporter(pathlib.Path(room) / "no" / "file"), on_failed=lambda fault: None))
+            provider.get_meter("app").create_counter("requests").add(1)
             with self.assertRaises(ExportFailed):
-                it.shutdown()
+                provider.shutdown()
 
     def test_posts(self):
         posted, status = [], [200]
@@ -571,14 +572,14 @@ class Exporters(unittest.TestCase):
             threading.Thread(target=server.serve_forever, daemon=True).start()
             for otlp in (True, False):
                 exporter = HttpExporter(f"http://127.0.0.1:{server.server_port}/v1/metrics", {"X-Key": "k"}, otlp=otlp)
-                it = provider(reader(exporter, on_failed=lambda fault: None))
-                it.get_meter("app").create_counter("requests").add(7)
-                it.force_flush()
+                provider = make_provider(reader(exporter, on_failed=lambda fault: None))
+                provider.get_meter("app").create_counter("requests").add(7)
+                provider.force_flush()
                 for status[0] in (500, 302):
                     with self.assertRaisesRegex(ExportFailed, str(status[0])):
-                        it.force_flush()
+                        provider.force_flush()
                 status[0] = 200
-                it.shutdown()
+                provider.shutdown()
             server.shutdown()
         types = [(headers["Content-Type"], headers["X-Key"]) for headers, _ in posted]
         self.assertEqual(types, [("application/x-protobuf", "k")] * 4 + [("application/vnd.kotskhin.export", "k")] * 4)
@@ -601,26 +602,26 @@ class Exporters(unittest.TestCase):
             def shutdown(self):
                 asked.append(-self.number)
 
-        it = FirstOf(*map(Gateway, (1, 2, 3)))
+        first = FirstOf(*map(Gateway, (1, 2, 3)))
         for away, wanted in (((), [1]), ((1, 2), [1, 2, 3]), ((), [3])):
             asked.clear()
             down.clear()
             down.update(away)
-            it.export(None, 900)
+            first.export(None, 900)
             self.assertEqual(asked, wanted)
         self.assertTrue(290 < timeouts[0] <= 300 and timeouts[2] <= 450 and timeouts[3] <= 900, timeouts)
         down.update((1, 2, 3))
         with self.assertRaisesRegex(OSError, "2 is down"):
-            it.export(None, 900)
-        it.shutdown()
+            first.export(None, 900)
+        first.shutdown()
         self.assertEqual(asked[-3:], [-1, -2, -3])
         with self.assertRaises(ValueError):
             FirstOf()
 
     def test_console(self):
         out = io.StringIO()
-        with provider(reader(ConsoleMetricExporter(out))) as it:
-            it.get_meter("app").create_counter("requests", "1").add(7)
+        with make_provider(reader(ConsoleMetricExporter(out))) as provider:
+            provider.get_meter("app").create_counter("requests", "1").add(7)
         self.assertEqual(out.getvalue(), "app requests 1\nattributes  points  conflicts  total\n{}               1          0  7\n")
 
 
@@ -650,19 +651,19 @@ class Page(unittest.TestCase):
 
     def post(self, url):
         for service, why in (("shop", None), ("thief", "403")):
-            it = MeterProvider({"service.name": service}, [reader(HttpExporter(f"{url}/v1/metrics"), on_failed=lambda fault: None)],
+            provider = MeterProvider({"service.name": service}, [reader(HttpExporter(f"{url}/v1/metrics"), on_failed=lambda fault: None)],
                                shutdown_on_exit=False)
-            it.get_meter("app").create_counter("requests").add(7)
+            provider.get_meter("app").create_counter("requests").add(7)
             for _ in range(2000):
                 try:
-                    it.force_flush()
+                    provider.force_flush()
                     break
                 except ExportFailed as fault:
                     if why and why in str(fault):
                         break
                     time.sleep(0.05)
             with contextlib.suppress(ExportFailed):
-                it.shutdown()
+                provider.shutdown()
         with urllib.request.urlopen(url, timeout=60) as answer:
             told = answer.read().decode()
             self.assertEqual(answer.headers["Content-Type"], kotskhin.PROMETHEUS_TYPE)
@@ -701,43 +702,43 @@ class Processes(unittest.TestCase):
 
     def test_children_begin_anew(self):
         exports = []
-        it = provider(reader(lambda export: exports.append(export.encode())))
-        requests = it.get_meter("app").create_counter("requests")
+        provider = make_provider(reader(lambda export: exports.append(export.encode())))
+        requests = provider.get_meter("app").create_counter("requests")
         requests.add(7, {"route": "/"})
 
         def work():
             for _ in range(100):
                 requests.add(1, {"route": "/"})
-            it.shutdown()
+            provider.shutdown()
             return exports[-1]
 
         gateway = Gateway(1)
         for bytes_ in self.children(4, work):
             gateway.take(Export.decode(bytes_))
         requests.add(1, {"route": "/"})
-        it.shutdown()
+        provider.shutdown()
         gateway.take(Export.decode(exports[-1]))
         row = gateway.rows(Ask.sum("app", "requests", ""))[0]
         self.assertEqual((row.points, row.conflicts, row.total), (5, 0, 408))
 
     def test_under_an_instance_that_was_given(self):
         refused = []
-        it = MeterProvider({**SHOP, "service.instance.id": 5}, on_refused=refused.append, shutdown_on_exit=False)
-        requests = it.get_meter("app").create_counter("requests")
+        provider = MeterProvider({**SHOP, "service.instance.id": 5}, on_refused=refused.append, shutdown_on_exit=False)
+        requests = provider.get_meter("app").create_counter("requests")
         requests.add(7)
 
         def work():
             requests.add(1)
             requests.add(1)
-            it.shutdown()
-            return f"{[type(it.why).__name__ for it in refused]} {it.collect()}".encode()
+            provider.shutdown()
+            return f"{[type(refusal.why).__name__ for refusal in refused]} {provider.collect()}".encode()
 
         self.assertEqual(list(self.children(1, work)), [b"['ForkedError', 'ForkedError'] None"])
-        self.assertEqual(totals(it), [({}, 7)])
+        self.assertEqual(totals(provider), [({}, 7)])
 
     def test_while_threads_record_and_collect(self):
-        it = provider(PeriodicExportingMetricReader(lambda export: None, 1))
-        requests, done = it.get_meter("app").create_counter("requests"), threading.Event()
+        provider = make_provider(PeriodicExportingMetricReader(lambda export: None, 1))
+        requests, done = provider.get_meter("app").create_counter("requests"), threading.Event()
 
         def record():
             while not done.is_set():
@@ -751,15 +752,15 @@ class Processes(unittest.TestCase):
 
         def work():
             requests.add(5)
-            told = totals(it)
-            it.shutdown()
+            told = totals(provider)
+            provider.shutdown()
             return repr(told).encode()
 
         told = list(self.children(10, work))
         done.set()
         for thread in threads:
             thread.join()
-        it.shutdown()
+        provider.shutdown()
         logging.getLogger("kotskhin").setLevel(logging.NOTSET)
         self.assertEqual(told, [b"[({}, 5)]"] * 10)
 

@@ -44,48 +44,48 @@ class Run:
         self.things, self.told, self.brought, self.failures, self.is_failing, self.export = {}, [], [], [], False, None
         readers = [PeriodicExportingMetricReader(self.bring, NEVER, on_failed=self.failures.append)] if case.get("reader") else []
         resource = {"service.name": case.get("service", "shop"), "service.instance.id": case.get("instance", 1)}
-        given = {it: case[it] for it in ("limit", "held") if it in case}
-        views = [view(it) for it in case.get("views", ())]
-        self.provider = MeterProvider(resource, readers, views, on_refused=lambda it: self.told.append(reason(it.why)), **given)
+        given = {word: case[word] for word in ("limit", "held") if word in case}
+        views = [view(one) for one in case.get("views", ())]
+        self.provider = MeterProvider(resource, readers, views, on_refused=lambda refusal: self.told.append(reason(refusal.why)), **given)
 
     def bring(self, export):
         if self.is_failing:
             raise OSError("nobody is there")
         self.brought.append(export.encode())
 
-    def declare(self, it):
-        meter, kind = self.provider.get_meter(it["scope"]), it["kind"]
-        advised = {"explicit_bucket_boundaries_advisory": it["bounds"]} if "bounds" in it else {}
+    def declare(self, step):
+        meter, kind = self.provider.get_meter(step["scope"]), step["kind"]
+        advised = {"explicit_bucket_boundaries_advisory": step["bounds"]} if "bounds" in step else {}
         try:
-            made = getattr(meter, f"create_{kind}".replace("up_down", "up_down_counter"))(it["name"], it["unit"], **advised)
+            made = getattr(meter, f"create_{kind}".replace("up_down", "up_down_counter"))(step["name"], step["unit"], **advised)
         except ProviderStarted:
             return "DECLARED_LATE"
         except Refused as fault:
             return fault.name
-        self.things[it.get("as")] = getattr(made, CALLS[kind])
+        self.things[step.get("as")] = getattr(made, CALLS[kind])
         return None
 
     def start(self, _):
         self.provider.start()
 
-    def record(self, it):
+    def record(self, step):
         def often():
-            for _ in range(it.get("times", 1)):
-                self.things[it["by"]](it["value"], dict(it["at"]))
+            for _ in range(step.get("times", 1)):
+                self.things[step["by"]](step["value"], dict(step["at"]))
 
-        threads = [threading.Thread(target=often) for _ in range(it.get("threads", 0))]
+        threads = [threading.Thread(target=often) for _ in range(step.get("threads", 0))]
         for thread in threads:
             thread.start()
         for thread in threads:
             thread.join()
-        if it.get("on") == "other":
+        if step.get("on") == "other":
             self.other.submit(often).result()
         elif not threads:
             often()
 
-    def collect(self, it):
+    def collect(self, step):
         self.export = self.provider.collect()
-        return None if (self.export is None) == it.get("nothing", False) else f"collected is {self.export}"
+        return None if (self.export is None) == step.get("nothing", False) else f"collected is {self.export}"
 
     def head(self, _):
         told = self.export.head()
@@ -97,7 +97,7 @@ class Run:
         return made
 
     def streams(self, _):
-        return [[it.scope, it.name, it.unit] for it in self.gateway().streams()]
+        return [[stream.scope, stream.name, stream.unit] for stream in self.gateway().streams()]
 
     @staticmethod
     def ask(of):
@@ -106,49 +106,49 @@ class Run:
             return Ask.histogram(*words, shape["bounds"])
         return Ask.gauge(*words) if shape == "gauge" else Ask.sum(*words, shape == "monotonic sum")
 
-    def table(self, it):
-        return self.gateway().table(self.ask(it["of"]))
+    def table(self, step):
+        return self.gateway().table(self.ask(step["of"]))
 
-    def values(self, it):
-        return [row.value for row in self.gateway().rows(self.ask(it["of"]))]
+    def values(self, step):
+        return [row.value for row in self.gateway().rows(self.ask(step["of"]))]
 
-    def value(self, it):
-        return self.values(it)[0]
+    def value(self, step):
+        return self.values(step)[0]
 
-    def refused(self, it):
+    def refused(self, step):
         told, self.told = sorted(set(self.told)), []
-        return self.provider.refused if told == it["by"] else told
+        return self.provider.refused if told == step["by"] else told
 
-    def flush(self, it):
-        return self.fails(it, self.provider.force_flush)
+    def flush(self, step):
+        return self.fails(step, self.provider.force_flush)
 
-    def shutdown(self, it):
-        return self.fails(it, self.provider.shutdown)
+    def shutdown(self, step):
+        return self.fails(step, self.provider.shutdown)
 
     @staticmethod
-    def fails(it, call):
+    def fails(step, call):
         try:
             call()
         except Exception as fault:
-            return None if "fails" in it else repr(fault)
-        return "it does not fail" if "fails" in it else None
+            return None if "fails" in step else repr(fault)
+        return "it does not fail" if "fails" in step else None
 
     def exported(self, _):
         if self.brought:
             self.export = Export.decode(self.brought[-1])
         return len(self.brought)
 
-    def failing(self, it):
-        self.is_failing = it["is"]
-        return it["is"]
+    def failing(self, step):
+        self.is_failing = step["is"]
+        return step["is"]
 
     def failed(self, _):
         return len(self.failures)
 
-    def step(self, it):
+    def step(self, step):
         """Performs a step, and tells what is other than it says."""
-        told = getattr(self, it["do"])(it)
-        return None if told == it.get("refused" if it["do"] == "declare" else "is") else f"it answers {told!r}"
+        told = getattr(self, step["do"])(step)
+        return None if told == step.get("refused" if step["do"] == "declare" else "is") else f"it answers {told!r}"
 
 
 def main():

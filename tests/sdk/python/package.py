@@ -27,7 +27,8 @@ class Wheel(unittest.TestCase):
         self.addCleanup(shutil.rmtree, self.room)
 
     def run_in(self, *command, **given):
-        done = subprocess.run([str(it) for it in command], cwd=self.room, capture_output=True, text=True, timeout=1800, check=False, **given)
+        words = [str(word) for word in command]
+        done = subprocess.run(words, cwd=self.room, capture_output=True, text=True, timeout=1800, check=False, **given)
         self.assertEqual(done.returncode, 0, done.stdout + done.stderr)
         return done.stdout
 

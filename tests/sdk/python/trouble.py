@@ -27,7 +27,7 @@ from kotskhin.metrics import (
 PACKAGE = str(SDK / "python" / "kotskhin")
 
 
-def provider(*readers, **given):
+def make_provider(*readers, **given):
     return MeterProvider({"service.name": "shop"}, readers, shutdown_on_exit=False, **given)
 
 
@@ -45,7 +45,7 @@ def told(export, ask):
 
 def total(export, name="requests"):
     """What all rows of a counter come to."""
-    return sum(it for _, it in told(export, Ask.sum("app", name, ""))) if export else 0
+    return sum(count for _, count in told(export, Ask.sum("app", name, ""))) if export else 0
 
 
 def interrupted(work, at, then):
@@ -92,8 +92,8 @@ class Interrupted(unittest.TestCase):
     def test_a_recording_at_each_place_of_the_first_one(self, begun):
         for at in itertools.count():
             exports = []
-            it = provider(reader(exports.append))
-            requests, others = (it.get_meter("app").create_counter(name) for name in ("requests", "others"))
+            provider = make_provider(reader(exports.append))
+            requests, others = (provider.get_meter("app").create_counter(name) for name in ("requests", "others"))
 
             def then():
                 requests.add(10)
@@ -101,10 +101,10 @@ class Interrupted(unittest.TestCase):
 
             is_reached = interrupted(lambda: requests.add(1), at, then)
             requests.add(1000)
-            export = it.collect()
+            export = provider.collect()
             wanted = (1011, 100, 0) if is_reached else (1001, 0, 0)
-            self.assertEqual((total(export), total(export, "others"), it.refused), wanted, at)
-            it.shutdown()
+            self.assertEqual((total(export), total(export, "others"), provider.refused), wanted, at)
+            provider.shutdown()
             self.assertEqual((begun.call_count, len(exports)), (1, 1))
             begun.reset_mock()
             if not is_reached:
@@ -114,22 +114,22 @@ class Interrupted(unittest.TestCase):
     def test_a_shutdown_at_each_place_of_the_first_recording(self):
         for at in itertools.count():
             exports = []
-            it = provider(reader(exports.append), on_refused=lambda of: None)
-            requests = it.get_meter("app").create_counter("requests")
-            is_reached = interrupted(lambda: requests.add(1), at, it.shutdown)
-            it.shutdown()
-            self.assertEqual(sum(map(total, exports)) + it.refused, 1, at)
+            provider = make_provider(reader(exports.append), on_refused=lambda of: None)
+            requests = provider.get_meter("app").create_counter("requests")
+            is_reached = interrupted(lambda: requests.add(1), at, provider.shutdown)
+            provider.shutdown()
+            self.assertEqual(sum(map(total, exports)) + provider.refused, 1, at)
             if not is_reached:
                 break
 
     def test_a_start_at_each_place_of_a_declaration(self):
         for at in itertools.count():
-            it = provider(views=[View(instrument_name="absent", name="other")])
-            first, made = it.get_meter("app").create_counter("first"), []
+            provider = make_provider(views=[View(instrument_name="absent", name="other")])
+            first, made = provider.get_meter("app").create_counter("first"), []
 
             def declared():
                 with contextlib.suppress(ProviderStarted):
-                    made.append(it.get_meter("app").create_counter("requests"))
+                    made.append(provider.get_meter("app").create_counter("requests"))
 
             logging.disable()
             is_reached = interrupted(declared, at, lambda: first.add(1))
@@ -137,15 +137,15 @@ class Interrupted(unittest.TestCase):
             for one in made:
                 one.add(5)
             logging.disable(logging.NOTSET)
-            export = it.collect()
-            self.assertEqual((total(export), total(export, "first"), it.refused), (5 * len(made), 1 + is_reached, 0), at)
+            export = provider.collect()
+            self.assertEqual((total(export), total(export, "first"), provider.refused), (5 * len(made), 1 + is_reached, 0), at)
             if not is_reached:
                 break
 
     def test_two_declarations_inside_each_other(self):
         for at in itertools.count():
-            it = provider()
-            meter, made = it.get_meter("app"), []
+            provider = make_provider()
+            meter, made = provider.get_meter("app"), []
 
             def declare(name):
                 made.append(meter.create_counter(name))
@@ -153,8 +153,8 @@ class Interrupted(unittest.TestCase):
             is_reached = interrupted(lambda: declare("requests"), at, lambda: declare("inner"))
             for one in made:
                 one.add(7)
-            export = it.collect()
-            self.assertEqual((total(export), total(export, "inner"), it.refused), (7, 7 * is_reached, 0), at)
+            export = provider.collect()
+            self.assertEqual((total(export), total(export, "inner"), provider.refused), (7, 7 * is_reached, 0), at)
             if not is_reached:
                 break
 
@@ -170,14 +170,14 @@ class Interrupted(unittest.TestCase):
         try:
             recorded = counted = refused = 0
             for turn in range(700):
-                it = provider()
-                current[0] = it.get_meter("app").create_counter("requests")
+                provider = make_provider()
+                current[0] = provider.get_meter("app").create_counter("requests")
                 signal.setitimer(signal.ITIMER_REAL, 1e-5 * (1 + turn % 40))
                 current[0].add(1, {"by": "us"})
                 signal.setitimer(signal.ITIMER_REAL, 0)
                 recorded += 1
                 requests, current[0] = current[0], None
-                counted, refused = counted + total(it.collect()), refused + it.refused
+                counted, refused = counted + total(provider.collect()), refused + provider.refused
                 self.assertEqual((counted, refused), (recorded + handled[0], 0), requests)
         finally:
             signal.setitimer(signal.ITIMER_REAL, 0)
@@ -185,11 +185,11 @@ class Interrupted(unittest.TestCase):
         self.assertGreater(handled[0], 100)
 
     def test_a_handler_of_logs_while_it_starts(self):
-        it = provider(reader(lambda export: None))
-        requests = it.get_meter("app").create_counter("requests")
+        provider = make_provider(reader(lambda export: None))
+        requests = provider.get_meter("app").create_counter("requests")
         with Handler(lambda: requests.add(10)), unittest.mock.patch.object(threading.Thread, "start", side_effect=RuntimeError("none")):
             requests.add(1)
-        self.assertEqual((total(it.collect()), it.refused), (11, 0))
+        self.assertEqual((total(provider.collect()), provider.refused), (11, 0))
 
 
 class Hooks(unittest.TestCase):
@@ -200,18 +200,18 @@ class Hooks(unittest.TestCase):
             called.append(of)
             requests.add(-2)
 
-        it = provider(on_refused=hook)
-        requests = it.get_meter("app").create_counter("requests")
+        provider = make_provider(on_refused=hook)
+        requests = provider.get_meter("app").create_counter("requests")
         with self.assertLogs("kotskhin", logging.WARNING) as logged:
             for _ in range(3):
                 requests.add(-1)
-        self.assertEqual(([of.value for of in called], it.refused, len(logged.output)), ([-1] * 3, 6, 1))
+        self.assertEqual(([of.value for of in called], provider.refused, len(logged.output)), ([-1] * 3, 6, 1))
         self.assertIn("a recording of -2 is refused", logged.output[0])
 
     def test_handlers_of_logs_that_are_refused_themselves(self):
         for hook in (None, lambda of: 1 / 0):
-            it = provider(on_refused=hook)
-            requests = it.get_meter("app").create_counter("requests")
+            provider = make_provider(on_refused=hook)
+            requests = provider.get_meter("app").create_counter("requests")
 
             def work():
                 requests.add(-2)
@@ -220,14 +220,14 @@ class Hooks(unittest.TestCase):
             with Handler(work):
                 requests.add(-1)
                 requests.add("1")
-            self.assertLess(it.refused, 12)
+            self.assertLess(provider.refused, 12)
             requests.add(1)
-            self.assertEqual(total(it.collect()), 1)
+            self.assertEqual(total(provider.collect()), 1)
 
     def test_hooks_of_two_providers_that_record_into_each_other(self):
-        one = provider(on_refused=lambda of: second.add(-1))
-        two = provider(on_refused=lambda of: first.add(-1))
-        first, second = (it.get_meter("app").create_counter("requests") for it in (one, two))
+        one = make_provider(on_refused=lambda of: second.add(-1))
+        two = make_provider(on_refused=lambda of: first.add(-1))
+        first, second = (each.get_meter("app").create_counter("requests") for each in (one, two))
         logging.disable()
         first.add(-1)
         logging.disable(logging.NOTSET)
@@ -242,8 +242,8 @@ class Views(unittest.TestCase):
             View(instrument_name="bad", aggregation=ExplicitBucketHistogramAggregation([2, 1])),
         ]
         refused = []
-        it = provider(views=views, on_refused=refused.append)
-        meter = it.get_meter("app")
+        provider = make_provider(views=views, on_refused=refused.append)
+        meter = provider.get_meter("app")
         load, size, depth = meter.create_counter("load"), meter.create_histogram("size"), meter.create_up_down_counter("depth")
         load.add(1, {"route": "/", "user": 5})
         size.record(6)
@@ -253,23 +253,23 @@ class Views(unittest.TestCase):
             (depth, None, None, kotskhin.BadAggregation, 2, 2),
         ]
         self.assertEqual([(*of[:3], type(of.why), of.why.place, of.why.second) for of in refused], wanted)
-        self.assertEqual(it.refused, 0)
-        export = it.collect()
+        self.assertEqual(provider.refused, 0)
+        export = provider.collect()
         self.assertEqual(told(export, Ask.sum("app", "load", "")), [({"route": "/"}, 1)])
         self.assertEqual(told(export, Ask.histogram("app", "size", "", [5])), [({}, 6)])
         self.assertEqual(told(export, Ask.sum("app", "depth", "", False)), [({}, -3)])
 
     def test_without_a_hook_it_is_logged(self):
-        it = provider(views=[View(instrument_name="load", name="9")])
+        provider = make_provider(views=[View(instrument_name="load", name="9")])
         with self.assertLogs("kotskhin", logging.WARNING) as logged:
-            load = it.get_meter("app").create_counter("load")
+            load = provider.get_meter("app").create_counter("load")
             load.add(1)
         self.assertEqual(len(logged.output), 1)
         self.assertRegex(logged.output[0], r"Counter\('app', 'load', ''\): a view is passed over: BAD_RENAME: .* \(view 0\)")
 
     def test_one_stream_of_two_instruments(self):
-        it = provider(views=[View(instrument_name="a", name="b")])
-        meter = it.get_meter("app")
+        provider = make_provider(views=[View(instrument_name="a", name="b")])
+        meter = provider.get_meter("app")
         one = meter.create_counter("a")
         with self.assertRaises(kotskhin.SameStream) as caught:
             meter.create_counter("B")
@@ -280,75 +280,76 @@ class Views(unittest.TestCase):
         fine = meter.create_counter("fine")
         one.add(1)
         fine.add(2)
-        export = it.collect()
-        self.assertEqual((total(export, "b"), total(export, "fine"), it.refused), (1, 2, 0))
+        export = provider.collect()
+        self.assertEqual((total(export, "b"), total(export, "fine"), provider.refused), (1, 2, 0))
 
     def test_advised_bounds(self):
         """Names of the plan's own are nobody else's, and views of the user go before advice."""
         views = [View(instrument_name="Advised.2", aggregation=SumAggregation()), View(meter_name="other", aggregation=DropAggregation())]
-        it = provider(views=views)
-        meter = it.get_meter("app")
+        provider = make_provider(views=views)
+        meter = provider.get_meter("app")
         for name in ("advised.0", "ADVISED.1"):
             meter.create_histogram(name)
         meter.create_histogram("size", explicit_bucket_boundaries_advisory=[1])
-        self.assertEqual([(of.name, of.bounds) for of in it.streams if of.bounds == (1,)], [("size", (1,))])
-        self.assertEqual(len(it.streams), 3)
-        it = provider(views=views)
+        self.assertEqual([(of.name, of.bounds) for of in provider.streams if of.bounds == (1,)], [("size", (1,))])
+        self.assertEqual(len(provider.streams), 3)
+        provider = make_provider(views=views)
         for scope, name in (("app", "advised.2"), ("other", "size"), ("app", "Size.Of")):
-            it.get_meter(scope).create_histogram(name, "s", explicit_bucket_boundaries_advisory=[1])
-        told_of = [(of.scope, of.name, of.unit, of.shape, of.bounds) for of in it.streams]
+            provider.get_meter(scope).create_histogram(name, "s", explicit_bucket_boundaries_advisory=[1])
+        told_of = [(of.scope, of.name, of.unit, of.shape, of.bounds) for of in provider.streams]
         shapes = kotskhin.Shape
         self.assertEqual(told_of, [("app", "advised.2", "s", shapes.MONOTONIC_SUM, ()), ("app", "size.of", "s", shapes.HISTOGRAM, (1,))])
 
     def test_an_overflow_tells_the_streams_number(self):
         refused = []
-        it = provider(on_refused=refused.append)
-        meter = it.get_meter("app")
+        provider = make_provider(on_refused=refused.append)
+        meter = provider.get_meter("app")
         meter.create_histogram("a", explicit_bucket_boundaries_advisory=[1])
         size = meter.create_histogram("b", explicit_bucket_boundaries_advisory=[2])
         for _ in range(2):
             size.record((1 << 63) - 1)
-        self.assertEqual([(type(of.why), of.instrument, it.streams[of.why.place].name) for of in refused], [(kotskhin.Overflow, size, "b")])
+        seen = [(type(refusal.why), refusal.instrument, provider.streams[refusal.why.place].name) for refusal in refused]
+        self.assertEqual(seen, [(kotskhin.Overflow, size, "b")])
 
 
 class Limit(unittest.TestCase):
     def test_each_stream_is_told_once(self):
         refused = []
-        it = provider(limit=2, on_refused=refused.append, views=[View(instrument_name="b", name="c"), View(instrument_name="b")])
-        one, two, few = map(it.get_meter("app").create_counter, ("A", "b", "few"))
+        provider = make_provider(limit=2, on_refused=refused.append, views=[View(instrument_name="b", name="c"), View(instrument_name="b")])
+        one, two, few = map(provider.get_meter("app").create_counter, ("A", "b", "few"))
         few.add(1)
         for turn in range(3):
             for number in range(turn + 2):
                 one.add(1, {"n": number})
                 two.add(1, {"n": number})
-            it.collect()
+            provider.collect()
         self.assertEqual([(of.instrument, of.value, of.why.stream.name, of.why.limit) for of in refused],
                          [(one, None, "a", 2), (two, None, "b", 2), (two, None, "c", 2)])
         self.assertIn("of 'app' has points of its own for 2 attribute sets: ", str(refused[0].why))
         self.assertIn("otel.metric.overflow=true", str(refused[0].why))
-        self.assertEqual(it.refused, 0)
+        self.assertEqual(provider.refused, 0)
 
     def test_without_a_hook_it_is_logged(self):
-        it = provider(reader(lambda export: None), limit=1)
-        requests = it.get_meter("app").create_counter("requests")
+        provider = make_provider(reader(lambda export: None), limit=1)
+        requests = provider.get_meter("app").create_counter("requests")
         for number in range(3):
             requests.add(1, {"n": number})
         with self.assertLogs("kotskhin", logging.WARNING) as logged:
-            it.shutdown()
+            provider.shutdown()
         self.assertEqual(len(logged.output), 1)
         self.assertIn("CARDINALITY_LIMIT", logged.output[0])
 
     def test_exports_below_it_are_not_looked_into(self):
-        it = provider(limit=3)
-        requests = it.get_meter("app").create_counter("requests")
+        provider = make_provider(limit=3)
+        requests = provider.get_meter("app").create_counter("requests")
         with unittest.mock.patch("kotskhin.metrics.limits.Gateway", side_effect=AssertionError("it is looked into")) as made:
             for number in range(3):
                 requests.add(1, {"n": number})
-                it.collect()
+                provider.collect()
             self.assertEqual(made.call_count, 0)
             requests.add(1, {"n": 3})
             with self.assertRaises(AssertionError):
-                it.collect()
+                provider.collect()
 
 
 class Text(str):
@@ -376,7 +377,7 @@ class Wild(str):
 class OddAttributes(unittest.TestCase):
     def setUp(self):
         self.refused = []
-        self.provider = provider(on_refused=self.refused.append)
+        self.provider = make_provider(on_refused=self.refused.append)
         self.requests = self.provider.get_meter("app").create_counter("requests")
 
     def test_they_are_kept_by_their_plain_value(self):
@@ -390,16 +391,17 @@ class OddAttributes(unittest.TestCase):
             for odd, plain in sets:
                 self.requests.add(1, odd)
                 self.requests.add(1, plain)
-            self.requests.add(1, (it for it in [("a", "generated")]))
+            self.requests.add(1, (pair for pair in [("a", "generated")]))
         rows = told(self.provider.collect(), Ask.sum("app", "requests", ""))
-        self.assertEqual(sorted(map(repr, rows)), sorted(repr(it) for it in [*((plain, 6) for _, plain in sets), ({"a": "generated"}, 3)]))
+        wanted = [*((plain, 6) for _, plain in sets), ({"a": "generated"}, 3)]
+        self.assertEqual(sorted(map(repr, rows)), sorted(map(repr, wanted)))
         self.assertEqual([type(value) for of, _ in rows for value in of.values() if type(value) not in (str, int, bool)], [])
         self.assertEqual((self.refused, self.provider._held_count), ([], len(rows)))
 
     def test_they_use_up_no_places(self):
         odd = [
             lambda: {"status": http.HTTPStatus.OK}, lambda: collections.OrderedDict(route="/"),
-            lambda: types.MappingProxyType({"route": "/"}), lambda: (it for it in [("route", "/")]),
+            lambda: types.MappingProxyType({"route": "/"}), lambda: (pair for pair in [("route", "/")]),
             lambda: {"route": Text("/")}, lambda: {"a": 1.5}, lambda: {"a": [1]}, lambda: 5,
         ]
         for number in range(12_000):
@@ -421,7 +423,7 @@ class OddAttributes(unittest.TestCase):
         self.assertEqual((self.provider.refused, total(self.provider.collect())), (len(wrong) * 2, 0))
 
     def test_by_the_name_of_the_parameter(self):
-        meter = provider().get_meter("app")
+        meter = make_provider().get_meter("app")
         sums = meter.create_counter("a").add, meter.create_up_down_counter("b").add
         for call in (*sums, meter.create_gauge("c").set, meter.create_histogram("d").record):
             call(amount=1)
@@ -430,18 +432,19 @@ class OddAttributes(unittest.TestCase):
 
 class Exceptions(unittest.TestCase):
     def test_they_are_pickled(self):
-        it = provider()
-        it.get_meter("app").create_counter("requests").add(7)
-        stream = it.streams[0]
+        provider = make_provider()
+        provider.get_meter("app").create_counter("requests").add(7)
+        stream = provider.streams[0]
         for why in (
-            ExportFailed("an export", HttpRefused(403, "Forbidden", "no"), None), ExportFailed("an export", OSError(5, "no"), it.collect()),
+            ExportFailed("an export", HttpRefused(403, "Forbidden", "no"), None),
+            ExportFailed("an export", OSError(5, "no"), provider.collect()),
             HttpRefused(503, "Service Unavailable", "busy"), NotTaken(points=3, message="late"), CardinalityLimit(stream, 5),
             ProviderStarted("late"), kotskhin.ForkedError("no"), kotskhin.Closed(kotskhin.Code.CLOSED),
             kotskhin.Overflow(kotskhin.Code.OVERFLOW, 3),
         ):
             again = pickle.loads(pickle.dumps(why))
             self.assertEqual((type(again), str(again)), (type(why), str(why)))
-        again = pickle.loads(pickle.dumps(ExportFailed("the last export", NotTaken(points=3), it.collect())))
+        again = pickle.loads(pickle.dumps(ExportFailed("the last export", NotTaken(points=3), provider.collect())))
         self.assertEqual((total(again.unsent), again.why.points, again.__cause__), (7, 3, again.why))
 
 

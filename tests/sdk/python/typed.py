@@ -1,5 +1,5 @@
-"""Types: mypy --strict over the package, over the programs of docs/use/PYTHON.md as their users check them, and over wrong uses. It must refuse
-each of these: so no public name is of any type."""
+"""Types: mypy --strict over the package, over the programs of docs/use/PYTHON.md as their users check them, and over wrong uses. It must
+refuse each of these: so no public name is of any type."""
 import os
 import pathlib
 import re
@@ -101,11 +101,11 @@ class Types(unittest.TestCase):
         self.assertGreaterEqual(len(of), 5)
         for name, text in of.items():
             (self.room / f"{name}.py").write_text(text, encoding="utf-8")
-        self.assertEqual(self.checked(*(f"{it}.py" for it in of), PYTHON / "first.py"), [])
+        self.assertEqual(self.checked(*(f"{name}.py" for name in of), PYTHON / "first.py"), [])
 
     def test_wrong_uses(self):
         (self.room / "wrong.py").write_text(WRONG, encoding="utf-8")
-        told = {int(it.split(":")[1]) for it in self.checked("wrong.py") if ": error: " in it}
+        told = {int(line.split(":")[1]) for line in self.checked("wrong.py") if ": error: " in line}
         self.assertEqual(told, set(range(1, len(WRONG.splitlines()) + 1)) - {2, 3, 4, 5})
 
     def test_right_uses(self):

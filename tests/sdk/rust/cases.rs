@@ -51,7 +51,7 @@ fn text(of: &Json) -> Result<String, Stopped> {
     match of {
         Json::Text(text) => Ok(text.clone()),
         repeated => match repeated.find("repeat") {
-            Some(it) => Ok(it.list()[0].text().repeat(number(&it.list()[1])?)),
+            Some(repeat) => Ok(repeat.list()[0].text().repeat(number(&repeat.list()[1])?)),
             None => Err(Stopped::Unsayable),
         },
     }
@@ -67,7 +67,7 @@ fn written_out(of: &Json) -> Json {
         Json::Fields(fields) => {
             let out = fields
                 .iter()
-                .map(|(key, it)| (key.clone(), written_out(it)));
+                .map(|(key, item)| (key.clone(), written_out(item)));
             Json::Fields(out.collect())
         }
         other => other.clone(),
@@ -77,7 +77,9 @@ fn written_out(of: &Json) -> Json {
 fn unhexed(hex: &str) -> Vec<u8> {
     let pairs = hex.as_bytes().chunks(2);
     pairs
-        .map(|it| u8::from_str_radix(std::str::from_utf8(it).expect("digits"), 16).expect("digits"))
+        .map(|pair| {
+            u8::from_str_radix(std::str::from_utf8(pair).expect("digits"), 16).expect("digits")
+        })
         .collect()
 }
 
@@ -94,7 +96,9 @@ fn owned(of: &Json) -> Result<OwnedValue, Stopped> {
 }
 
 fn pairs(of: &Json) -> Result<Vec<(String, OwnedValue)>, Stopped> {
-    all(of, |it| Ok((text(&it.list()[0])?, owned(&it.list()[1])?)))
+    all(of, |pair| {
+        Ok((text(&pair.list()[0])?, owned(&pair.list()[1])?))
+    })
 }
 
 fn borrowed(pairs: &[(String, OwnedValue)]) -> impl Iterator<Item = (&str, AttributeValue<'_>)> {
@@ -120,17 +124,17 @@ fn view(of: &Json) -> Result<View, Stopped> {
         Some(name) => View::of_name(&text(name)?)?,
         None => View::of_every()?,
     };
-    if let Some(it) = of.find("kind") {
-        view.kind(kind(it)?)?;
+    if let Some(word) = of.find("kind") {
+        view.kind(kind(word)?)?;
     }
-    if let Some(it) = of.find("scope") {
-        view.scope(&text(it)?)?;
+    if let Some(word) = of.find("scope") {
+        view.scope(&text(word)?)?;
     }
-    if let Some(it) = of.find("rename") {
-        view.rename(&text(it)?)?;
+    if let Some(word) = of.find("rename") {
+        view.rename(&text(word)?)?;
     }
-    if let Some(it) = of.find("keep") {
-        view.keep(all(it, text)?.iter().map(String::as_str))?;
+    if let Some(words) = of.find("keep") {
+        view.keep(all(words, text)?.iter().map(String::as_str))?;
     }
     match of.find("aggregation") {
         None => (),
@@ -168,10 +172,10 @@ struct Run(HashMap<String, RefCell<Thing>>);
 
 /// A thing of one kind, or of one of several, by its name.
 macro_rules! the {
-    ($run:expr, $name:expr, $($kind:ident)|+, $it:ident => $call:expr) => {{
+    ($run:expr, $name:expr, $($kind:ident)|+, $thing:ident => $call:expr) => {{
         let cell = $run.cell($name);
         match &mut *cell.borrow_mut() {
-            $(Thing::$kind($it) => $call,)+
+            $(Thing::$kind($thing) => $call,)+
             #[allow(unreachable_patterns)]
             _ => panic!("{:?} is of another kind", $name),
         }
@@ -193,56 +197,57 @@ impl Run {
 
     fn bytes(&self, of: &Json) -> Vec<u8> {
         match of {
-            Json::Text(_) => the!(self, of, Bytes, it => it.clone()),
+            Json::Text(_) => the!(self, of, Bytes, bytes => bytes.clone()),
             hex => unhexed(hex.get("hex").text()),
         }
     }
 
-    fn plan(&mut self, it: &Json) -> Answer {
+    fn plan(&mut self, step: &Json) -> Answer {
         let (mut instruments, mut views) = (Instruments::new(), Views::new());
-        for one in it.get("instruments").list() {
+        for one in step.get("instruments").list() {
             let [scope, name, unit, of] = one.list() else {
                 panic!("{one:?} is no instrument")
             };
             instruments.add(&text(scope)?, &text(name)?, &text(unit)?, kind(of)?)?;
         }
-        for one in it.find("views").map_or(&[][..], Json::list) {
+        for one in step.find("views").map_or(&[][..], Json::list) {
             views.add(&view(one)?)?;
         }
-        let limit = it.find("limit").map_or(Ok(DEFAULT_LIMIT), number)?;
+        let limit = step.find("limit").map_or(Ok(DEFAULT_LIMIT), number)?;
         let plan = Plan::with_views(&instruments, &views, limit)?;
-        self.make(it, Thing::Plan(plan))
+        self.make(step, Thing::Plan(plan))
     }
 
-    fn writer(&mut self, it: &Json) -> Answer {
-        let (service, instance) = (text(it.get("service"))?, number(it.get("instance"))?);
-        let start = number(it.get("start"))?;
-        let writer = the!(self, it.get("plan"), Plan, plan => Writer::start(plan, &service, instance, start))?;
-        self.make(it, Thing::Writer(writer))
+    fn writer(&mut self, step: &Json) -> Answer {
+        let (service, instance) = (text(step.get("service"))?, number(step.get("instance"))?);
+        let start = number(step.get("start"))?;
+        let writer = the!(self, step.get("plan"), Plan, plan => Writer::start(plan, &service, instance, start))?;
+        self.make(step, Thing::Writer(writer))
     }
 
     fn ask(&self, of: &Json) -> Result<Ask, Stopped> {
         let mut ask = match of.find("stream") {
             Some(stream) => {
-                let streams = the!(self, of.get("streams_of"), Plan | Gateway, it => it.streams())?;
+                let streams =
+                    the!(self, of.get("streams_of"), Plan | Gateway, thing => thing.streams())?;
                 Ask::stream(&streams, number(stream)?)?
             }
             None => self.ask_of_words(of)?,
         };
-        if let Some(it) = of.find("service") {
-            ask.service(&text(it)?)?;
+        if let Some(given) = of.find("service") {
+            ask.service(&text(given)?)?;
         }
-        if let Some(it) = of.find("only") {
-            ask.only(borrowed(&pairs(it)?))?;
+        if let Some(given) = of.find("only") {
+            ask.only(borrowed(&pairs(given)?))?;
         }
-        if let Some(it) = of.find("keep") {
-            ask.keep(all(it, text)?.iter().map(String::as_str))?;
+        if let Some(given) = of.find("keep") {
+            ask.keep(all(given, text)?.iter().map(String::as_str))?;
         }
         Ok(ask)
     }
 
     fn ask_of_words(&self, of: &Json) -> Result<Ask, Stopped> {
-        let [scope, name, unit] = ["scope", "name", "unit"].map(|it| text(of.get(it)));
+        let [scope, name, unit] = ["scope", "name", "unit"].map(|word| text(of.get(word)));
         let (scope, name, unit) = (scope?, name?, unit?);
         Ok(match of.get("shape") {
             Json::Text(word) if word == "gauge" => Ask::gauge(&scope, &name, &unit)?,
@@ -254,44 +259,44 @@ impl Run {
         })
     }
 
-    fn rows(&self, it: &Json) -> Answer {
-        let ask = self.ask(it.get("ask"))?;
-        let rows = the!(self, it.get("of"), Gateway, gateway => gateway.rows(&ask))?;
+    fn rows(&self, step: &Json) -> Answer {
+        let ask = self.ask(step.get("ask"))?;
+        let rows = the!(self, step.get("of"), Gateway, gateway => gateway.rows(&ask))?;
         let table = rows.table()?;
-        match it.find("table") {
+        match step.find("table") {
             Some(wanted) if wanted.text() != table => Err(Stopped::Differs(table)),
             _ => Ok(Json::List(rows.all()?.iter().map(told::row).collect())),
         }
     }
 
     /// (a row comes whole, with its buckets and its attributes)
-    fn row(&self, it: &Json) -> Answer {
-        let ask = self.ask(it.get("ask"))?;
-        let rows = the!(self, it.get("of"), Gateway, gateway => gateway.rows(&ask))?;
-        Ok(told::row(&rows.row(number(it.get("row"))?)?))
+    fn row(&self, step: &Json) -> Answer {
+        let ask = self.ask(step.get("ask"))?;
+        let rows = the!(self, step.get("of"), Gateway, gateway => gateway.rows(&ask))?;
+        Ok(told::row(&rows.row(number(step.get("row"))?)?))
     }
 
-    fn take(&self, it: &Json) -> Answer {
-        let taking = the!(self, it.get("export"), Export, export => {
-            the!(self, it.get("by"), Gateway, gateway => gateway.take(export))
+    fn take(&self, step: &Json) -> Answer {
+        let taking = the!(self, step.get("export"), Export, export => {
+            the!(self, step.get("by"), Gateway, gateway => gateway.take(export))
         })?;
         let late = Json::Truth(taking == Taking::Late);
-        match it.find("late") {
+        match step.find("late") {
             Some(wanted) if *wanted != late => Err(Stopped::Differs(format!("{taking:?}"))),
             _ => Ok(Json::number(taking.changed())),
         }
     }
 
-    fn gateway_read(&self, it: &Json) -> Answer {
-        let head = the!(self, it.get("of"), Gateway, gateway => gateway.head())?;
+    fn gateway_read(&self, step: &Json) -> Answer {
+        let head = the!(self, step.get("of"), Gateway, gateway => gateway.head())?;
         Ok(Json::fields([
             ("id", Json::number(head.id)),
             ("points", Json::number(head.points)),
         ]))
     }
 
-    fn export(&self, it: &Json) -> Answer {
-        let head = the!(self, it.get("of"), Export, export => export.head())?;
+    fn export(&self, step: &Json) -> Answer {
+        let head = the!(self, step.get("of"), Export, export => export.head())?;
         Ok(Json::fields([
             ("service", Json::Text(head.service)),
             ("instance", Json::number(head.instance)),
@@ -301,9 +306,9 @@ impl Run {
         ]))
     }
 
-    fn changed_bytes(&mut self, it: &Json) -> Answer {
-        let mut made = self.bytes(it.get("of"));
-        for one in it.find("set").map_or(&[][..], Json::list) {
+    fn changed_bytes(&mut self, step: &Json) -> Answer {
+        let mut made = self.bytes(step.get("of"));
+        for one in step.find("set").map_or(&[][..], Json::list) {
             let place: isize = number(&one.list()[0])?;
             let at = match place {
                 0.. => place.unsigned_abs(),
@@ -311,11 +316,14 @@ impl Run {
             };
             made[at] = number(&one.list()[1])?;
         }
-        if let Some(cut) = it.find("cut") {
+        if let Some(cut) = step.find("cut") {
             made.truncate(number(cut)?);
         }
-        made.extend(it.find("add").map_or(Vec::new(), |it| unhexed(it.text())));
-        if it.find("checksum").is_some() {
+        made.extend(
+            step.find("add")
+                .map_or(Vec::new(), |given| unhexed(given.text())),
+        );
+        if step.find("checksum").is_some() {
             let front = made.len() - 4;
             let (mut low, mut high) = (1u32, 0u32);
             for byte in &made[..front] {
@@ -325,56 +333,56 @@ impl Run {
             made.truncate(front);
             made.extend((high << 16 | low).to_be_bytes());
         }
-        self.make(it, Thing::Bytes(made))
+        self.make(step, Thing::Bytes(made))
     }
 
-    fn decode(&mut self, it: &Json) -> Answer {
-        let bytes = self.bytes(it.get("bytes"));
-        let made = match it.get("what").text() {
+    fn decode(&mut self, step: &Json) -> Answer {
+        let bytes = self.bytes(step.get("bytes"));
+        let made = match step.get("what").text() {
             "export" => Thing::Export(Export::decode(&bytes)?),
             _ => Thing::Message(Message::decode(&bytes)?),
         };
-        self.make(it, made)
+        self.make(step, made)
     }
 
-    fn of_otlp(&mut self, it: &Json) -> Answer {
-        let made = Export::of_otlp(&self.bytes(it.get("bytes")))?;
+    fn of_otlp(&mut self, step: &Json) -> Answer {
+        let made = Export::of_otlp(&self.bytes(step.get("bytes")))?;
         let count = Json::number(made.len());
-        for (name, export) in it.get("as").list().iter().zip(made) {
+        for (name, export) in step.get("as").list().iter().zip(made) {
             let export = RefCell::new(Thing::Export(export));
             self.0.insert(name.text().to_owned(), export);
         }
         Ok(count)
     }
 
-    fn page(&self, it: &Json) -> Answer {
-        let service = it.find("service").map(text).transpose()?;
-        let page = the!(self, it.get("of"), Gateway, gateway => match it.get("format").text() {
+    fn page(&self, step: &Json) -> Answer {
+        let service = step.find("service").map(text).transpose()?;
+        let page = the!(self, step.get("of"), Gateway, gateway => match step.get("format").text() {
             "openmetrics" => gateway.openmetrics(service.as_deref()),
             _ => gateway.prometheus(service.as_deref()),
         })?;
-        let has = |line: &Json| page.lines().any(|it| it == line.text());
+        let has = |line: &Json| page.lines().any(|other| other == line.text());
         let lacks = |text: &Json| !page.contains(text.text());
-        match it.get("has").list().iter().all(has) && it.get("lacks").list().iter().all(lacks) {
+        match step.get("has").list().iter().all(has) && step.get("lacks").list().iter().all(lacks) {
             true => Ok(Json::Null),
             false => Err(Stopped::Differs(page)),
         }
     }
 
-    fn share(&mut self, it: &Json) -> Answer {
-        let shared = self.0.remove(it.get("by").text());
+    fn share(&mut self, step: &Json) -> Answer {
+        let shared = self.0.remove(step.get("by").text());
         let Some(Thing::Writer(writer)) = shared.map(RefCell::into_inner) else {
             panic!("there is no writer")
         };
         let seat = writer.share().map_err(|(_, why)| why)?;
-        self.make(it, Thing::Seat(seat))
+        self.make(step, Thing::Seat(seat))
     }
 
-    fn hand(&mut self, it: &Json) -> Answer {
-        let answer = the!(self, it.get("message"), Message, message => {
-            the!(self, it.get("by"), Gateway, gateway => gateway.hand(message))
+    fn hand(&mut self, step: &Json) -> Answer {
+        let answer = the!(self, step.get("message"), Message, message => {
+            the!(self, step.get("by"), Gateway, gateway => gateway.hand(message))
         })?;
-        match (answer, it.find("answer")) {
+        match (answer, step.find("answer")) {
             (Some(answer), Some(Json::Text(name))) => {
                 let answer = RefCell::new(Thing::Message(answer));
                 self.0.insert(name.clone(), answer);
@@ -385,13 +393,14 @@ impl Run {
         }
     }
 
-    fn threads(&self, it: &Json) -> Answer {
-        let (many, each): (usize, usize) = (number(it.get("threads"))?, number(it.get("each"))?);
-        let (instrument, capacity) = (number(it.get("instrument"))?, it.find("capacity"));
+    fn threads(&self, step: &Json) -> Answer {
+        let (many, each): (usize, usize) =
+            (number(step.get("threads"))?, number(step.get("each"))?);
+        let (instrument, capacity) = (number(step.get("instrument"))?, step.find("capacity"));
         let capacity = capacity.map_or(Ok(0), number)?;
-        the!(self, it.get("set"), Set, set => {
+        the!(self, step.get("set"), Set, set => {
             let set: &Attributes = set;
-            match &mut *self.cell(it.get("by")).borrow_mut() {
+            match &mut *self.cell(step.get("by")).borrow_mut() {
                 Thing::Writer(writer) => {
                     let held = writer.hold(instrument, set)?;
                     let writer = Mutex::new(writer);
@@ -439,21 +448,24 @@ impl Run {
         })
     }
 
-    fn fill(&self, it: &Json) -> Answer {
-        for number in 0..number::<i64>(it.get("sets"))? {
-            let set = Attributes::new([(it.get("key").text(), number)])?;
-            the!(self, it.get("by"), Writer, writer => writer.measure(0, &set, 1))?;
+    fn fill(&self, step: &Json) -> Answer {
+        for number in 0..number::<i64>(step.get("sets"))? {
+            let set = Attributes::new([(step.get("key").text(), number)])?;
+            the!(self, step.get("by"), Writer, writer => writer.measure(0, &set, 1))?;
         }
         Ok(Json::Null)
     }
 
-    fn decode_often(&self, it: &Json) -> Answer {
-        let bytes = self.bytes(it.get("bytes"));
-        let (times, most) = (number(it.get("times"))?, number(it.get("most_megabytes"))?);
+    fn decode_often(&self, step: &Json) -> Answer {
+        let bytes = self.bytes(step.get("bytes"));
+        let (times, most) = (
+            number(step.get("times"))?,
+            number(step.get("most_megabytes"))?,
+        );
         let mut before = 0;
         for turn in 0..=times {
             let export = Export::decode(&bytes)?;
-            the!(self, it.get("by"), Gateway, gateway => gateway.take(&export))?;
+            the!(self, step.get("by"), Gateway, gateway => gateway.take(&export))?;
             if turn == times / 10 {
                 before = megabytes();
             }
@@ -465,141 +477,142 @@ impl Run {
     }
 
     /// What a step answers.
-    fn performed(&mut self, it: &Json) -> Answer {
-        let by = |name: &str| it.get(name);
-        match it.get("do").text() {
-            "plan" => self.plan(it),
+    fn performed(&mut self, step: &Json) -> Answer {
+        let by = |name: &str| step.get(name);
+        match step.get("do").text() {
+            "plan" => self.plan(step),
             "set" => {
                 let set = Attributes::new(borrowed(&pairs(by("pairs"))?))?;
-                self.make(it, Thing::Set(set))
+                self.make(step, Thing::Set(set))
             }
             "pairs" => Ok(told::pairs(&the!(self, by("of"), Set, set => set.pairs())?)),
-            "writer" => self.writer(it),
+            "writer" => self.writer(step),
             "measure" => {
                 let (instrument, value) = (number(by("instrument"))?, number(by("value"))?);
                 the!(self, by("set"), Set, set => {
-                    the!(self, by("by"), Writer | Recorder | Seat, it => it.measure(instrument, set, value))
+                    the!(self, by("by"), Writer | Recorder | Seat, thing => thing.measure(instrument, set, value))
                 })?;
                 Ok(Json::Null)
             }
-            "hold" => self.hold(it),
-            "measure_held" => self.measure_held(it),
+            "hold" => self.hold(step),
+            "measure_held" => self.measure_held(step),
             "collect" => {
                 let time = number(by("time"))?;
-                let made = the!(self, by("by"), Writer | Seat, it => it.collect(time))?;
-                self.make(it, Thing::Export(made))
+                let made = the!(self, by("by"), Writer | Seat, thing => thing.collect(time))?;
+                self.make(step, Thing::Export(made))
             }
             "shutdown" => {
                 let time = number(by("time"))?;
-                let made = the!(self, by("by"), Writer, it => it.shutdown(time))?;
-                self.make(it, Thing::Export(made))
+                let made = the!(self, by("by"), Writer, writer => writer.shutdown(time))?;
+                self.make(step, Thing::Export(made))
             }
             "restart" => {
                 let start = number(by("start"))?;
-                the!(self, by("by"), Writer, it => it.restart(start))?;
+                the!(self, by("by"), Writer, writer => writer.restart(start))?;
                 Ok(Json::Null)
             }
             "recorder" => {
                 let made = Recorder::new(number(by("capacity"))?)?;
-                self.make(it, Thing::Recorder(made))
+                self.make(step, Thing::Recorder(made))
             }
             "length" => Ok(Json::number(
-                the!(self, by("of"), Recorder, it => it.len())?,
+                the!(self, by("of"), Recorder, recorder => recorder.len())?,
             )),
             "clear" => {
-                the!(self, by("of"), Recorder, it => it.clear())?;
+                the!(self, by("of"), Recorder, recorder => recorder.clear())?;
                 Ok(Json::Null)
             }
             "take_in" => {
-                let most = it.find("most").map_or(Ok(usize::MAX), number)?;
+                let most = step.find("most").map_or(Ok(usize::MAX), number)?;
                 let taken = the!(self, by("recorder"), Recorder, recorder => {
-                    the!(self, by("by"), Writer | Seat, it => it.take_in(recorder, most))
+                    the!(self, by("by"), Writer | Seat, thing => thing.take_in(recorder, most))
                 })?;
                 Ok(told::taken(&taken))
             }
-            "share" => self.share(it),
+            "share" => self.share(step),
             "split" => {
-                for _ in 0..it.find("times").map_or(Ok(1), number)? {
+                for _ in 0..step.find("times").map_or(Ok(1), number)? {
                     let made = the!(self, by("by"), Seat, seat => seat.split())?;
-                    self.make(it, Thing::Seat(made))?;
+                    self.make(step, Thing::Seat(made))?;
                 }
                 Ok(Json::Null)
             }
-            _ => self.performed_by_gateways(it),
+            _ => self.performed_by_gateways(step),
         }
     }
 
-    fn hold(&self, it: &Json) -> Answer {
-        let instrument = number(it.get("instrument"))?;
-        let held = the!(self, it.get("set"), Set, set => {
-            the!(self, it.get("by"), Writer | Seat, it => it.hold(instrument, set))
+    fn hold(&self, step: &Json) -> Answer {
+        let instrument = number(step.get("instrument"))?;
+        let held = the!(self, step.get("set"), Set, set => {
+            the!(self, step.get("by"), Writer | Seat, thing => thing.hold(instrument, set))
         })?;
         Ok(Json::number(
-            format!("{held:?}").replace(|it: char| !it.is_ascii_digit(), ""),
+            format!("{held:?}").replace(|letter: char| !letter.is_ascii_digit(), ""),
         ))
     }
 
     /// (a number of a pair is made by a call alone: the case's is that of a pair of the writer's, or Rust has none)
-    fn measure_held(&self, it: &Json) -> Answer {
-        let (wanted, value): (usize, i64) = (number(it.get("number"))?, number(it.get("value"))?);
+    fn measure_held(&self, step: &Json) -> Answer {
+        let (wanted, value): (usize, i64) =
+            (number(step.get("number"))?, number(step.get("value"))?);
         let held = held(wanted).ok_or(Stopped::Unsayable)?;
-        the!(self, it.get("by"), Writer | Recorder | Seat, it => it.measure_held(held, value))?;
+        the!(self, step.get("by"), Writer | Recorder | Seat, thing => thing.measure_held(held, value))?;
         Ok(Json::Null)
     }
 
-    fn performed_by_gateways(&mut self, it: &Json) -> Answer {
-        let by = |name: &str| it.get(name);
+    fn performed_by_gateways(&mut self, step: &Json) -> Answer {
+        let by = |name: &str| step.get(name);
         match by("do").text() {
-            "export" => self.export(it),
+            "export" => self.export(step),
             "gateway" => {
                 let made = Gateway::open(number(by("id"))?)?;
-                self.make(it, Thing::Gateway(made))
+                self.make(step, Thing::Gateway(made))
             }
-            "gateway_read" => self.gateway_read(it),
-            "take" => self.take(it),
+            "gateway_read" => self.gateway_read(step),
+            "take" => self.take(step),
             // (a gateway that merges itself is refused by rustc: ../misuse)
             "merge" if by("from") == by("by") => Err(Stopped::Unsayable),
             "merge" => the!(self, by("from"), Gateway, from => {
-                Ok(Json::number(the!(self, by("by"), Gateway, it => it.merge(from))?))
+                Ok(Json::number(the!(self, by("by"), Gateway, gateway => gateway.merge(from))?))
             }),
             "merge_bytes" => {
                 let bytes = self.bytes(by("bytes"));
-                let changed = the!(self, by("by"), Gateway, it => it.merge_bytes(&bytes))?;
+                let changed =
+                    the!(self, by("by"), Gateway, gateway => gateway.merge_bytes(&bytes))?;
                 Ok(Json::number(changed))
             }
             "conflicts" => Ok(Json::number(
-                the!(self, by("of"), Gateway, it => it.head())?.conflicts,
+                the!(self, by("of"), Gateway, gateway => gateway.head())?.conflicts,
             )),
             "same" => {
                 if by("of") == by("and") {
                     return Ok(Json::Truth(
-                        the!(self, by("of"), Gateway, it => it.same(it))?,
+                        the!(self, by("of"), Gateway, gateway => gateway.same(gateway))?,
                     ));
                 }
                 the!(self, by("and"), Gateway, other => {
-                    Ok(Json::Truth(the!(self, by("of"), Gateway, it => it.same(other))?))
+                    Ok(Json::Truth(the!(self, by("of"), Gateway, gateway => gateway.same(other))?))
                 })
             }
             "newest" => {
                 let (service, instance) = (text(by("service"))?, number(by("instance"))?);
                 let start = number(by("start"))?;
-                let newest =
-                    the!(self, by("of"), Gateway, it => it.newest(&service, instance, start))?;
+                let newest = the!(self, by("of"), Gateway, gateway => gateway.newest(&service, instance, start))?;
                 Ok(Json::number(newest))
             }
             "streams" => Ok(told::streams(
-                &the!(self, by("of"), Plan | Export | Gateway, it => it.streams())?,
+                &the!(self, by("of"), Plan | Export | Gateway, thing => thing.streams())?,
             )?),
-            "rows" => self.rows(it),
-            "row" => self.row(it),
+            "rows" => self.rows(step),
+            "row" => self.row(step),
             "send" => {
                 let to = number(by("to"))?;
-                let made = the!(self, by("by"), Gateway, it => it.send(to))?;
-                self.make(it, Thing::Message(made))
+                let made = the!(self, by("by"), Gateway, gateway => gateway.send(to))?;
+                self.make(step, Thing::Message(made))
             }
-            "hand" => self.hand(it),
+            "hand" => self.hand(step),
             "message" => {
-                let told = the!(self, by("of"), Message, it => it.envelope())?;
+                let told = the!(self, by("of"), Message, message => message.envelope())?;
                 Ok(Json::fields([
                     ("from", Json::number(told.from)),
                     ("to", Json::number(told.to)),
@@ -607,66 +620,67 @@ impl Run {
                 ]))
             }
             "encode" => {
-                let made = the!(self, by("of"), Export | Message | Gateway, it => it.encode())?;
-                self.make(it, Thing::Bytes(made))
+                let made =
+                    the!(self, by("of"), Export | Message | Gateway, thing => thing.encode())?;
+                self.make(step, Thing::Bytes(made))
             }
-            "decode" => self.decode(it),
+            "decode" => self.decode(step),
             "incarnations" => {
-                let list = the!(self, by("of"), Gateway | Message, it => it.incarnations())?;
+                let list = the!(self, by("of"), Gateway | Message, thing => thing.incarnations())?;
                 Ok(Json::List(list.iter().map(told::incarnation).collect()))
             }
             "services" => {
-                let list = the!(self, by("of"), Gateway, it => it.services())?;
+                let list = the!(self, by("of"), Gateway, gateway => gateway.services())?;
                 Ok(Json::List(list.into_iter().map(Json::Text).collect()))
             }
             "otlp" => {
-                let made = the!(self, by("of"), Export, it => it.otlp())?;
-                self.make(it, Thing::Bytes(made))
+                let made = the!(self, by("of"), Export, export => export.otlp())?;
+                self.make(step, Thing::Bytes(made))
             }
-            "of_otlp" => self.of_otlp(it),
-            "page" => self.page(it),
-            "bytes" => self.changed_bytes(it),
+            "of_otlp" => self.of_otlp(step),
+            "page" => self.page(step),
+            "bytes" => self.changed_bytes(step),
             "bytes_are" => match self.bytes(by("of")) == unhexed(by("hex").text()) {
                 true => Ok(Json::Null),
                 false => Err(Stopped::Differs("the bytes are others".into())),
             },
-            "threads" => self.threads(it),
-            "fill" => self.fill(it),
-            "decode_often" => self.decode_often(it),
-            _ => self.performed_by_archives(it),
+            "threads" => self.threads(step),
+            "fill" => self.fill(step),
+            "decode_often" => self.decode_often(step),
+            _ => self.performed_by_archives(step),
         }
     }
 
-    fn performed_by_archives(&mut self, it: &Json) -> Answer {
-        let by = |name: &str| it.get(name);
+    fn performed_by_archives(&mut self, step: &Json) -> Answer {
+        let by = |name: &str| step.get(name);
         match by("do").text() {
             "archive" => {
                 let (service, instance) = (text(by("service"))?, number(by("instance"))?);
                 let (start, limit) = (number(by("start"))?, number(by("limit"))?);
                 let made = Archive::begin_under(&service, instance, start, limit)?;
-                self.make(it, Thing::Archive(made))
+                self.make(step, Thing::Archive(made))
             }
             "adopt" => {
                 let (service, instance) = (text(by("service"))?, number(by("instance"))?);
                 let start = number(by("start"))?;
                 the!(self, by("gateway"), Gateway, gateway => {
-                    the!(self, by("by"), Archive, it => it.adopt(gateway, &service, instance, start))
+                    the!(self, by("by"), Archive, archive => archive.adopt(gateway, &service, instance, start))
                 })?;
                 Ok(Json::Null)
             }
             "archive_export" => {
                 let time = number(by("time"))?;
-                let made = the!(self, by("by"), Archive, it => it.export(time))?;
-                self.make(it, Thing::Export(made))
+                let made = the!(self, by("by"), Archive, archive => archive.export(time))?;
+                self.make(step, Thing::Export(made))
             }
             "seal" => {
                 let start = number(by("start"))?;
-                the!(self, by("by"), Archive, it => it.seal(start))?;
+                the!(self, by("by"), Archive, archive => archive.seal(start))?;
                 Ok(Json::Null)
             }
-            "archive_read" => the!(self, by("of"), Archive, it => Ok(Json::fields([
-                ("start", Json::number(it.start()?)),
-                ("adopted", Json::number(it.adopted()?)),
+            "archive_read" => the!(self, by("of"), Archive, archive => Ok(Json::fields([
+                ("start", Json::number(archive.start()?)),
+                ("adopted", Json::number(archive.adopted()?)),
             ]))),
             other => panic!("no step is {other}"),
         }
@@ -700,11 +714,11 @@ fn joined<T: Send>(
     let own = std::iter::repeat_with(made).take(many);
     let own: Vec<T> = own.collect::<Result<_, _>>()?;
     thread::scope(|scope| {
-        let spawned = own.into_iter().map(|it| scope.spawn(move || record(it)));
+        let spawned = own.into_iter().map(|own| scope.spawn(move || record(own)));
         let started: Vec<_> = spawned.collect();
         started
             .into_iter()
-            .try_for_each(|it| it.join().expect("it ends"))
+            .try_for_each(|thread| thread.join().expect("it ends"))
     })
 }
 
@@ -725,8 +739,8 @@ fn held(number: usize) -> Option<kotskhin::HeldNumber> {
 /// How much memory the process has.
 fn megabytes() -> usize {
     let told = fs::read_to_string("/proc/self/statm").unwrap_or_default();
-    let pages = told.split(' ').nth(1).and_then(|it| it.parse().ok());
-    pages.map_or(0, |it: usize| it * 4 / 1024)
+    let pages = told.split(' ').nth(1).and_then(|pages| pages.parse().ok());
+    pages.map_or(0, |pages: usize| pages * 4 / 1024)
 }
 
 #[test]
@@ -744,7 +758,7 @@ fn every_case_is_as_the_list_says() {
         performed += 1;
         let mut run = Run::default();
         let steps = case.get("steps").list().iter();
-        let steps = steps.take_while(|it| it.get("do").text() != "close");
+        let steps = steps.take_while(|step| step.get("do").text() != "close");
         let mut faults = steps.filter_map(|step| {
             let fault = run.fault_of(step)?;
             Some(format!("{}: {step:?}: {fault}", case.get("name").text()))

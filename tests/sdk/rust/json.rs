@@ -58,7 +58,7 @@ impl Json {
 type Rest<'a> = Peekable<Chars<'a>>;
 
 fn takes(rest: &mut Rest, wanted: char) -> bool {
-    while rest.next_if(|it| it.is_whitespace()).is_some() {}
+    while rest.next_if(|letter| letter.is_whitespace()).is_some() {}
     rest.next_if_eq(&wanted).is_some()
 }
 
@@ -102,7 +102,7 @@ fn value(rest: &mut Rest) -> Json {
         return Json::Text(text(rest));
     }
     let mut word = String::new();
-    while let Some(one) = rest.next_if(|it| it.is_alphanumeric() || *it == '-') {
+    while let Some(one) = rest.next_if(|letter| letter.is_alphanumeric() || *letter == '-') {
         word.push(one);
     }
     match word.as_str() {

@@ -31,10 +31,10 @@ struct Told {
 }
 
 impl Told {
-    fn refusal(&self, it: &Refusal) {
-        match it.what {
-            Refused::Instrument => *locked(&self.declared) = Some(reason(it.why)),
-            _ => locked(&self.refused).push(reason(it.why)),
+    fn refusal(&self, refusal: &Refusal) {
+        match refusal.what {
+            Refused::Instrument => *locked(&self.declared) = Some(reason(refusal.why)),
+            _ => locked(&self.refused).push(reason(refusal.why)),
         }
     }
 
@@ -112,9 +112,9 @@ fn view(
     of: &Json,
     told: &Told,
 ) -> impl Fn(&kotskhin::metrics::Instrument) -> Option<Stream> + Send + Sync + 'static {
-    let word = |name: &str| of.find(name).map(|it| it.text().to_owned());
+    let word = |name: &str| of.find(name).map(|word| word.text().to_owned());
     let (name, scope) = (word("name"), word("scope"));
-    let of_kind = word("kind").map(|it| kind(&it));
+    let of_kind = word("kind").map(|name| kind(&name));
     let mut made = Stream::builder();
     if let Some(name) = word("rename") {
         made = made.with_name(name);
@@ -123,7 +123,7 @@ fn view(
         let keys: Vec<Key> = keep
             .list()
             .iter()
-            .map(|it| Key::new(it.text().to_owned()))
+            .map(|key| Key::new(key.text().to_owned()))
             .collect();
         made = made.with_allowed_attribute_keys(keys);
     }
@@ -138,18 +138,20 @@ fn view(
     if let Err(refusal) = &made {
         locked(&told.refused).push(reason(refusal.why));
     }
-    move |it| {
-        let is_of = name.as_deref().is_none_or(|name| name == it.name())
-            && scope.as_deref().is_none_or(|scope| scope == it.scope())
-            && of_kind.is_none_or(|kind| kind == it.kind());
+    move |refusal| {
+        let is_of = name.as_deref().is_none_or(|name| name == refusal.name())
+            && scope
+                .as_deref()
+                .is_none_or(|scope| scope == refusal.scope())
+            && of_kind.is_none_or(|kind| kind == refusal.kind());
         made.clone().ok().filter(|_| is_of)
     }
 }
 
 fn pairs(of: &Json) -> Vec<KeyValue> {
-    let pair = |it: &Json| {
-        let key = it.list()[0].text().to_owned();
-        match &it.list()[1] {
+    let pair = |given: &Json| {
+        let key = given.list()[0].text().to_owned();
+        match &given.list()[1] {
             Json::Truth(truth) => KeyValue::new(key, *truth),
             Json::Number(digits) => {
                 KeyValue::new(key, digits.parse::<i64>().expect("it has 64 bits"))
@@ -183,15 +185,15 @@ impl Run {
         let hook = Arc::clone(&told);
         let mut builder = SdkMeterProvider::builder()
             .with_resource(resource.build())
-            .on_refused(move |it| hook.refusal(it));
+            .on_refused(move |refusal| hook.refusal(refusal));
         if let Some(limit) = case.find("limit") {
             builder = builder.with_cardinality_limit(number(limit));
         }
         if let Some(held) = case.find("held") {
             builder = builder.with_cache(number(held));
         }
-        for it in case.find("views").map_or(&[][..], Json::list) {
-            builder = builder.with_view(view(it, &told));
+        for given in case.find("views").map_or(&[][..], Json::list) {
+            builder = builder.with_view(view(given, &told));
         }
         if case.find("reader").is_some() {
             let (takes, fails) = (Arc::clone(&told), Arc::clone(&told));
@@ -212,13 +214,13 @@ impl Run {
         }
     }
 
-    fn declare(&mut self, it: &Json) -> Json {
-        let meter = self.provider.meter(it.get("scope").text());
+    fn declare(&mut self, step: &Json) -> Json {
+        let meter = self.provider.meter(step.get("scope").text());
         let (name, unit) = (
-            it.get("name").text().to_owned(),
-            it.get("unit").text().to_owned(),
+            step.get("name").text().to_owned(),
+            step.get("unit").text().to_owned(),
         );
-        let call: Call = match kind(it.get("kind").text()) {
+        let call: Call = match kind(step.get("kind").text()) {
             Kind::Counter => {
                 let made = meter.u64_counter(name).with_unit(unit).build();
                 Arc::new(move |value, at| made.add(value.parse().expect("it is of u64"), at))
@@ -233,14 +235,14 @@ impl Run {
             }
             _ => {
                 let mut made = meter.u64_histogram(name).with_unit(unit);
-                if let Some(bounds) = it.find("bounds") {
+                if let Some(bounds) = step.find("bounds") {
                     made = made.with_boundaries(numbers(bounds));
                 }
                 let made = made.build();
                 Arc::new(move |value, at| made.record(value.parse().expect("it is of u64"), at))
             }
         };
-        if let Some(name) = it.find("as") {
+        if let Some(name) = step.find("as") {
             self.calls.insert(name.text().to_owned(), call);
         }
         locked(&self.told.declared)
@@ -248,18 +250,18 @@ impl Run {
             .map_or(Json::Null, Json::Text)
     }
 
-    fn record(&self, it: &Json) {
-        let call = &self.calls[it.get("by").text()];
-        let (value, at) = (it.get("value").text(), pairs(it.get("at")));
-        let times: usize = it.find("times").map_or(1, number);
-        if it.find("on").is_some() {
+    fn record(&self, step: &Json) {
+        let call = &self.calls[step.get("by").text()];
+        let (value, at) = (step.get("value").text(), pairs(step.get("at")));
+        let times: usize = step.find("times").map_or(1, number);
+        if step.find("on").is_some() {
             let (call, value, at) = (Arc::clone(call), value.to_owned(), at.clone());
             return self
                 .other
                 .call(move || (0..times).for_each(|_| call(&value, &at)));
         }
         let often = || (0..times).for_each(|_| call(value, &at));
-        let Some(threads) = it.find("threads") else {
+        let Some(threads) = step.find("threads") else {
             return often();
         };
         thread::scope(|scope| {
@@ -268,7 +270,7 @@ impl Run {
             // (by each one's end: a scope does not wait until the logs of its threads are given up)
             started
                 .into_iter()
-                .for_each(|it| it.join().expect("it ends"));
+                .for_each(|thread| thread.join().expect("it ends"));
         });
     }
 
@@ -289,18 +291,22 @@ impl Run {
 
     fn streams(&self) -> Result<Json, Error> {
         let all = self.gateway()?.streams()?.all()?;
-        let told = all
-            .into_iter()
-            .map(|it| Json::List([it.scope, it.name, it.unit].map(Json::Text).into()));
+        let told = all.into_iter().map(|stream| {
+            Json::List(
+                [stream.scope, stream.name, stream.unit]
+                    .map(Json::Text)
+                    .into(),
+            )
+        });
         Ok(Json::List(told.collect()))
     }
 
-    fn refused(&self, it: &Json) -> Json {
+    fn refused(&self, step: &Json) -> Json {
         let told: BTreeSet<String> = std::mem::take(&mut *locked(&self.told.refused))
             .into_iter()
             .collect();
         let told = Json::List(told.into_iter().map(Json::Text).collect());
-        match told == *it.get("by") {
+        match told == *step.get("by") {
             true => Json::number(self.provider.refused()),
             false => told,
         }
@@ -309,16 +315,16 @@ impl Run {
     /// The values of all rows of a gauge.
     fn values(&self, of: &Json) -> Result<Vec<i64>, Error> {
         let rows = self.gateway()?.rows(&ask(of)?)?.all()?;
-        let values = rows.iter().filter_map(|it| match it.total {
+        let values = rows.iter().filter_map(|row| match row.total {
             Total::Gauge(newest) => Some(newest?.1),
             _ => None,
         });
         Ok(values.collect())
     }
 
-    fn collect(&mut self, it: &Json) -> Json {
+    fn collect(&mut self, step: &Json) -> Json {
         let made = self.provider.collect();
-        let is_as_told = made.is_err() == it.find("nothing").is_some();
+        let is_as_told = made.is_err() == step.find("nothing").is_some();
         self.export = made.ok();
         match is_as_told {
             true => Json::Null,
@@ -335,31 +341,31 @@ impl Run {
     }
 
     /// Performs a step, and gives what it answers.
-    fn step(&mut self, it: &Json) -> Result<Json, Error> {
+    fn step(&mut self, step: &Json) -> Result<Json, Error> {
         let fails = |done: Result<(), SdkError>| match done {
-            Err(_) if it.find("fails").is_some() => Json::Null,
-            Ok(()) if it.find("fails").is_none() => Json::Null,
+            Err(_) if step.find("fails").is_some() => Json::Null,
+            Ok(()) if step.find("fails").is_none() => Json::Null,
             other => Json::Text(format!("{other:?}")),
         };
-        Ok(match it.get("do").text() {
-            "declare" => self.declare(it),
+        Ok(match step.get("do").text() {
+            "declare" => self.declare(step),
             "start" => fails(self.provider.start()),
             "record" => {
-                self.record(it);
+                self.record(step);
                 Json::Null
             }
-            "collect" => self.collect(it),
+            "collect" => self.collect(step),
             "head" => self.head()?,
             "streams" => self.streams()?,
-            "table" => Json::Text(self.gateway()?.table(&ask(it.get("of"))?)?),
-            "value" => Json::number(self.values(it.get("of"))?[0]),
-            "values" => told::list(&self.values(it.get("of"))?),
-            "refused" => self.refused(it),
+            "table" => Json::Text(self.gateway()?.table(&ask(step.get("of"))?)?),
+            "value" => Json::number(self.values(step.get("of"))?[0]),
+            "values" => told::list(&self.values(step.get("of"))?),
+            "refused" => self.refused(step),
             "flush" => fails(self.provider.force_flush()),
             "shutdown" => fails(self.provider.shutdown()),
             "exported" => self.exported()?,
             "failing" => {
-                let is_failing = *it.get("is") == Json::Truth(true);
+                let is_failing = *step.get("is") == Json::Truth(true);
                 self.told.is_failing.store(is_failing, Ordering::Relaxed);
                 Json::Truth(is_failing)
             }
@@ -380,7 +386,7 @@ fn every_case_of_names_is_as_the_list_says() {
     for case in read.get("cases").list() {
         let name = case.get("name").text();
         let wants = case.find("wants").map_or(&[][..], Json::list);
-        if wants.iter().any(|it| it.text() == "signed") {
+        if wants.iter().any(|want| want.text() == "signed") {
             println!("{name}: a u64 is not below 0");
             continue;
         }

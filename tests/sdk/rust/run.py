@@ -69,7 +69,7 @@ class Crates:
         for name, program in zip(("shop", "first_of", "archive"), re.findall(r"^```rust\n(.*?)^```$", text, re.M | re.S), strict=True):
             if program != (RUST / "kotskhin" / "examples" / f"{name}.rs").read_text(encoding="utf-8").split("\n", 1)[1]:
                 sys.exit(f"docs/use/RUST.md: a program is not sdk/rust/kotskhin/examples/{name}.rs")
-        says = next(it.says for it in exports.codes() if it.name == "BAD_UNIT")
+        says = next(code.says for code in exports.codes() if code.name == "BAD_UNIT")
         if not re.search(rf"^kotskhin: BadUnit: '.*', declared at .*, is refused: {re.escape(says)}$", text, re.M):
             sys.exit(f"docs/use/RUST.md: of a bad unit the library says: {says}")
         if (told := self.fresh(text)) != first:

@@ -59,14 +59,14 @@ pub fn row(row: &Row) -> Json {
 }
 
 pub fn streams(streams: &Streams) -> Result<Json, Error> {
-    let told = streams.all()?.into_iter().map(|it| {
-        let shape = match it.shape {
+    let told = streams.all()?.into_iter().map(|stream| {
+        let shape = match stream.shape {
             Shape::Sum { monotonic: true } => Json::Text("monotonic sum".into()),
             Shape::Sum { monotonic: false } => Json::Text("sum".into()),
             Shape::Histogram { bounds } => Json::fields([("bounds", list(&bounds))]),
             _ => Json::Text("gauge".into()),
         };
-        let words = [it.scope, it.name, it.unit].map(Json::Text);
+        let words = [stream.scope, stream.name, stream.unit].map(Json::Text);
         Json::List(words.into_iter().chain([shape]).collect())
     });
     Ok(Json::List(told.collect()))

@@ -128,21 +128,21 @@ func run(all []post) {
 	tell(all, took, time.Since(began))
 }
 
-func send(client *http.Client, it post) {
-	answer := must(client.Post(it.url, it.kind, bytes.NewReader(it.body)))
+func send(client *http.Client, p post) {
+	answer := must(client.Post(p.url, p.kind, bytes.NewReader(p.body)))
 	defer answer.Body.Close()
 	told := must(io.ReadAll(answer.Body))
 	if answer.StatusCode/100 != 2 {
-		log.Fatalf("%s: %s: %.300s", it.url, answer.Status, told)
+		log.Fatalf("%s: %s: %.300s", p.url, answer.Status, told)
 	}
 }
 
 func tell(all []post, took []time.Duration, seconds time.Duration) {
 	var done []float64
 	size := 0
-	for number, it := range took {
-		if it > 0 {
-			done = append(done, it.Seconds()*1000)
+	for number, lasted := range took {
+		if lasted > 0 {
+			done = append(done, lasted.Seconds()*1000)
 			size += len(all[number].body)
 		}
 	}

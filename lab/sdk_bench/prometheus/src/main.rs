@@ -16,7 +16,7 @@ const VALUES: [&str; 4] = ["value 0"; 4];
 
 fn rounds() -> usize {
     let first = env::args().nth(1);
-    first.and_then(|it| it.parse().ok()).unwrap_or(25)
+    first.and_then(|word| word.parse().ok()).unwrap_or(25)
 }
 
 fn tell(name: &str, recordings: usize, mut run: impl FnMut()) {

@@ -20,10 +20,10 @@ struct NotTaken : std::runtime_error {
     std::string message;
 
     explicit NotTaken(uint64_t points, uint64_t exports = 0, std::string message = "")
-        : std::runtime_error(told(points, exports, message)), points(points), exports(exports), message(std::move(message)) {}
+        : std::runtime_error(describe(points, exports, message)), points(points), exports(exports), message(std::move(message)) {}
 
 private:
-    static std::string told(uint64_t points, uint64_t exports, const std::string &message) {
+    static std::string describe(uint64_t points, uint64_t exports, const std::string &message) {
         if (exports) return std::to_string(exports) + " exports came late, and were not taken";
         return std::to_string(points) + " points were not taken" + (message.empty() ? "" : ": " + message);
     }
@@ -38,7 +38,7 @@ constexpr size_t MOST_LOOKED_AT = 64 << 10;
 class Fields {
     std::string_view left;
 
-    bool number(uint64_t &value) {
+    bool read_number(uint64_t &value) {
         value = 0;
         for (size_t turn = 0; turn < std::min<size_t>(left.size(), 10); turn++) {
             auto byte = static_cast<uint8_t>(left[turn]);
@@ -59,16 +59,16 @@ public:
     bool is(uint64_t number, uint64_t type) const { return field == number && wire == type; }
     bool next() {
         uint64_t tag, size = 0;
-        if (!number(tag)) return false;
+        if (!read_number(tag)) return false;
         field = tag >> 3;
         wire = tag & 7;
         if (field == 0 || field >= 1u << 29) return false;
         switch (wire) {
-        case NUMBER: return number(value);
+        case NUMBER: return read_number(value);
         case EIGHT: size = 8; break;
         case FOUR: size = 4; break;
         case BYTES:
-            if (!number(size)) return false;
+            if (!read_number(size)) return false;
             break;
         default: return false;
         }
@@ -88,10 +88,10 @@ inline std::optional<NotTaken> points_not_taken(std::string_view answer) {
     for (Fields outer(answer); !outer.at_end();) {
         if (!outer.next()) return {};
         if (!outer.is(1, Fields::BYTES)) continue;
-        for (Fields it(outer.bytes); !it.at_end();) {
-            if (!it.next()) return {};
-            if (it.is(1, Fields::NUMBER)) points = it.value;
-            if (it.is(2, Fields::BYTES)) message = it.bytes;
+        for (Fields inner(outer.bytes); !inner.at_end();) {
+            if (!inner.next()) return {};
+            if (inner.is(1, Fields::NUMBER)) points = inner.value;
+            if (inner.is(2, Fields::BYTES)) message = inner.bytes;
         }
     }
     // (what is above is a number below 0)
@@ -100,7 +100,7 @@ inline std::optional<NotTaken> points_not_taken(std::string_view answer) {
 }
 
 // How many exports a gateway says were late, by the value of a header: a whole number of at most 19 digits, and anything else says nothing.
-inline uint64_t late_of(std::string_view value) {
+inline uint64_t read_late(std::string_view value) {
     const char *const BLANKS = " \t\r\n";
     value.remove_prefix(std::min(value.find_first_not_of(BLANKS), value.size()));
     value = value.substr(0, value.find_last_not_of(BLANKS) + 1);

@@ -22,7 +22,7 @@ public:
         }
     }
     AttributeArgument(const OwnedValue &value) noexcept : is(Is::Text) {
-        if (auto it = std::get_if<std::string>(&value)) text = *it;
+        if (auto owned = std::get_if<std::string>(&value)) text = *owned;
         else if (auto number = std::get_if<int64_t>(&value)) *this = AttributeArgument(*number);
         else if (auto truth = std::get_if<bool>(&value)) *this = AttributeArgument(*truth);
     }

@@ -69,7 +69,7 @@ public:
         }
     }
     void Shutdown() override {
-        for (auto &it : exporters) it->Shutdown();
+        for (auto &exporter : exporters) exporter->Shutdown();
     }
 };
 
@@ -84,8 +84,8 @@ public:
         gateway.take(given);
         Streams streams = gateway.streams();
         for (size_t number = 0; number < streams.size(); number++) {
-            Stream it = streams[number];
-            into << it.scope << " " << it.name << " " << it.unit << "\n" << gateway.table(Ask::stream(streams, number));
+            Stream stream = streams[number];
+            into << stream.scope << " " << stream.name << " " << stream.unit << "\n" << gateway.table(Ask::stream(streams, number));
         }
         into.flush();
         if (!into) throw std::runtime_error("what is written to failed");
@@ -120,7 +120,7 @@ class Beside {
     std::string path;
     int file = -1;
 
-    [[noreturn]] void failed() const { throw std::system_error(errno, std::generic_category(), path); }
+    [[noreturn]] void fail() const { throw std::system_error(errno, std::generic_category(), path); }
 
 public:
     // (of a mode that the umask says; who shares the folder from a container may have the same process id)
@@ -129,7 +129,7 @@ public:
             Instance drawn = unique_instance();
             path = other + "." + std::to_string(drawn.high) + ".new";
             file = open(path.c_str(), O_WRONLY | O_CREAT | O_EXCL | O_CLOEXEC, 0666);
-            if (file < 0 && (errno != EEXIST || turn > 9)) failed();
+            if (file < 0 && (errno != EEXIST || turn > 9)) fail();
         }
     }
     Beside(Beside &&) = delete;
@@ -140,11 +140,11 @@ public:
     void write(const std::vector<uint8_t> &bytes) {
         for (size_t done = 0; done < bytes.size();) {
             ssize_t many = ::write(file, bytes.data() + done, bytes.size() - done);
-            if (many < 0 && errno != EINTR) failed();
+            if (many < 0 && errno != EINTR) fail();
             if (many > 0) done += static_cast<size_t>(many);
         }
-        if (fdatasync(file)) failed();
-        if (close(std::exchange(file, -1))) failed();
+        if (fdatasync(file)) fail();
+        if (close(std::exchange(file, -1))) fail();
     }
     void replace(const std::string &other) {
         if (std::rename(path.c_str(), other.c_str())) throw std::system_error(errno, std::generic_category(), other);

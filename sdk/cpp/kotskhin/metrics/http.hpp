@@ -31,8 +31,8 @@ private:
     std::unique_ptr<curl_slist, void (*)(curl_slist *)> headers{nullptr, curl_slist_free_all};
 
     // What is told of an answer other than 2xx.
-    std::string refusal(long answered) const {
-        std::string told = url + " answered " + std::to_string(answered), why = detail::first_line(answer);
+    std::string describe_refusal(long status) const {
+        std::string told = url + " answered " + std::to_string(status), why = detail::first_line(answer);
         return why.empty() ? told : told + ": " + why;
     }
     void set(CURLcode code) {
@@ -46,7 +46,7 @@ private:
         headers.reset(longer);
     }
     // (of an answer that is longer than is looked at one byte more is kept, which says so)
-    static size_t kept(char *from, size_t size, size_t count, void *into) noexcept {
+    static size_t keep_body(char *from, size_t size, size_t count, void *into) noexcept {
         auto &answer = *static_cast<std::string *>(into);
         try {
             answer.append(from, std::min(size * count, detail::MOST_LOOKED_AT + 1 - answer.size()));
@@ -56,10 +56,10 @@ private:
         return size * count;
     }
     // (older libcurls have no curl_easy_header)
-    static size_t headed(char *from, size_t size, size_t count, void *into) noexcept {
+    static size_t read_header(char *from, size_t size, size_t count, void *into) noexcept {
         std::string_view line(from, size * count), name = "Kotskhin-Late:";
         if (line.size() > name.size() && curl_strnequal(from, name.data(), name.size())) {
-            *static_cast<uint64_t *>(into) = detail::late_of(line.substr(name.size()));
+            *static_cast<uint64_t *>(into) = detail::read_late(line.substr(name.size()));
         }
         return line.size();
     }
@@ -74,7 +74,7 @@ public:
         add("Content-Type: " + (options.content_type.empty() ? options.encode.media_type : options.content_type));
         // (else curl waits for leave to send a long body)
         add("Expect:");
-        for (auto &it : options.headers) add(it);
+        for (auto &header : options.headers) add(header);
         set(curl_easy_setopt(curl.get(), CURLOPT_URL, url.c_str()));
 #if LIBCURL_VERSION_NUM >= 0x075500
         set(curl_easy_setopt(curl.get(), CURLOPT_PROTOCOLS_STR, "http,https"));
@@ -85,9 +85,9 @@ public:
         set(curl_easy_setopt(curl.get(), CURLOPT_NOSIGNAL, 1L));
         set(curl_easy_setopt(curl.get(), CURLOPT_TIMEOUT_MS, static_cast<long>(options.timeout.count())));
         set(curl_easy_setopt(curl.get(), CURLOPT_HTTPHEADER, headers.get()));
-        set(curl_easy_setopt(curl.get(), CURLOPT_WRITEFUNCTION, &kept));
+        set(curl_easy_setopt(curl.get(), CURLOPT_WRITEFUNCTION, &keep_body));
         set(curl_easy_setopt(curl.get(), CURLOPT_WRITEDATA, &answer));
-        set(curl_easy_setopt(curl.get(), CURLOPT_HEADERFUNCTION, &headed));
+        set(curl_easy_setopt(curl.get(), CURLOPT_HEADERFUNCTION, &read_header));
         set(curl_easy_setopt(curl.get(), CURLOPT_HEADERDATA, &late));
     }
 
@@ -98,9 +98,9 @@ public:
         set(curl_easy_setopt(curl.get(), CURLOPT_POSTFIELDSIZE_LARGE, static_cast<curl_off_t>(body.size())));
         set(curl_easy_setopt(curl.get(), CURLOPT_POSTFIELDS, body.empty() ? "" : reinterpret_cast<const char *>(body.data())));
         set(curl_easy_perform(curl.get()));
-        long answered = 0;
-        set(curl_easy_getinfo(curl.get(), CURLINFO_RESPONSE_CODE, &answered));
-        if (answered < 200 || answered > 299) throw std::runtime_error(refusal(answered));
+        long status = 0;
+        set(curl_easy_getinfo(curl.get(), CURLINFO_RESPONSE_CODE, &status));
+        if (status < 200 || status > 299) throw std::runtime_error(describe_refusal(status));
         // (how exports go as bytes is a function's, so an answer is read either way)
         if (auto why = detail::points_not_taken(answer)) throw *why;
         if (late) throw NotTaken(0, late);

@@ -123,7 +123,7 @@ class Meter {
     std::string scope;
 
     template <typename Made>
-    std::unique_ptr<Made> made(std::string name, std::string unit, Kind kind, Place declared,
+    std::unique_ptr<Made> make(std::string name, std::string unit, Kind kind, Place declared,
                                const std::optional<std::vector<int64_t>> &boundaries = {}) const {
         return std::unique_ptr<Made>(new Made(shared, Declared{scope, std::move(name), std::move(unit), kind}, boundaries, declared));
     }
@@ -133,24 +133,24 @@ public:
 
     std::unique_ptr<Counter<uint64_t>> CreateUInt64Counter(std::string name, std::string_view = "", std::string unit = "",
                                                            Place declared = Place::here()) const {
-        return made<Counter<uint64_t>>(std::move(name), std::move(unit), Kind::Counter, declared);
+        return make<Counter<uint64_t>>(std::move(name), std::move(unit), Kind::Counter, declared);
     }
     std::unique_ptr<UpDownCounter<int64_t>> CreateInt64UpDownCounter(std::string name, std::string_view = "", std::string unit = "",
                                                                      Place declared = Place::here()) const {
-        return made<UpDownCounter<int64_t>>(std::move(name), std::move(unit), Kind::UpDown, declared);
+        return make<UpDownCounter<int64_t>>(std::move(name), std::move(unit), Kind::UpDown, declared);
     }
     std::unique_ptr<Gauge<int64_t>> CreateInt64Gauge(std::string name, std::string_view = "", std::string unit = "",
                                                      Place declared = Place::here()) const {
-        return made<Gauge<int64_t>>(std::move(name), std::move(unit), Kind::Gauge, declared);
+        return make<Gauge<int64_t>>(std::move(name), std::move(unit), Kind::Gauge, declared);
     }
     std::unique_ptr<Histogram<uint64_t>> CreateUInt64Histogram(std::string name, std::string_view = "", std::string unit = "",
                                                                Place declared = Place::here()) const {
-        return made<Histogram<uint64_t>>(std::move(name), std::move(unit), Kind::Histogram, declared);
+        return make<Histogram<uint64_t>>(std::move(name), std::move(unit), Kind::Histogram, declared);
     }
     // With the upper bounds of its buckets, which strictly rise, where no view says others.
     std::unique_ptr<Histogram<uint64_t>> CreateUInt64Histogram(std::string name, std::string_view, std::string unit,
                                                                std::vector<int64_t> boundaries, Place declared = Place::here()) const {
-        return made<Histogram<uint64_t>>(std::move(name), std::move(unit), Kind::Histogram, declared, boundaries);
+        return make<Histogram<uint64_t>>(std::move(name), std::move(unit), Kind::Histogram, declared, boundaries);
     }
 };
 

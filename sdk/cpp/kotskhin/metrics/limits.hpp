@@ -24,12 +24,12 @@ public:
         gateway.take(made);
         Streams list = gateway.streams();
         for (size_t number = 0; number < list.size(); number++) {
-            Stream it = list[number];
-            Key key{it.scope, it.name, it.unit, it.shape};
+            Stream stream = list[number];
+            Key key{stream.scope, stream.name, stream.unit, stream.shape};
             if (told.count(key)) continue;
             if (!gateway.rows(Ask::stream(list, number).only({{"otel.metric.overflow", true}})).size()) continue;
             told.insert(std::move(key));
-            all.push_back({it.name, {}, CARDINALITY_LIMIT, {}, {}, 0, RefusalOf::Stream});
+            all.push_back({stream.name, {}, CARDINALITY_LIMIT, {}, {}, 0, RefusalOf::Stream});
         }
         return all;
     }

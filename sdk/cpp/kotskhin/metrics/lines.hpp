@@ -8,9 +8,9 @@
 
 namespace kotskhin::metrics::detail {
 
-inline std::string without_controls(std::string_view text) {
+inline std::string strip_controls(std::string_view text) {
     std::string kept(text);
-    auto is_control = [](char it) { return (it >= 0 && it < ' ') || it == '\x7f'; };
+    auto is_control = [](char character) { return (character >= 0 && character < ' ') || character == '\x7f'; };
     kept.erase(std::remove_if(kept.begin(), kept.end(), is_control), kept.end());
     return kept;
 }
@@ -21,13 +21,13 @@ inline std::string first_line(std::string_view text) {
     size_t most = std::min<size_t>(text.size(), 1024);
     // (no character is cut in two)
     while (most && most < text.size() && (static_cast<uint8_t>(text[most]) & 0xc0) == 0x80) most--;
-    return without_controls(text.substr(0, most));
+    return strip_controls(text.substr(0, most));
 }
 
 // Tells one line. What can't be written is not told.
 inline void tell_line(std::string_view text) noexcept {
     try {
-        std::cerr << "kotskhin: " + without_controls(text) + "\n" << std::flush;
+        std::cerr << "kotskhin: " + strip_controls(text) + "\n" << std::flush;
     } catch (...) {
     }
 }

@@ -18,7 +18,7 @@ public:
     bool is_another() const noexcept { return getpid() != id; }
     // Throws FORKED in another process.
     void check() const {
-        if (is_another()) throw refused(FORKED);
+        if (is_another()) throw make_refused(FORKED);
     }
     // A lock's hold. The process is looked at only where the lock is taken: there a fork would wait for ever.
     template <template <typename> class Hold = std::unique_lock, typename Lock>
@@ -34,8 +34,8 @@ public:
 // A thing that threads share. A fork leaves it as it is, since another thread may have been amid a change, or waited there.
 template <typename Thing, typename... Given>
 std::shared_ptr<Thing> make_left_by_forks(Given &&...given) {
-    auto deletes = [process = Process()](Thing *it) {
-        if (!process.is_another()) delete it;
+    auto deletes = [process = Process()](Thing *thing) {
+        if (!process.is_another()) delete thing;
     };
     return std::shared_ptr<Thing>(new Thing(std::forward<Given>(given)...), deletes);
 }

@@ -16,7 +16,7 @@ class MeterProvider {
     using Micros = std::chrono::microseconds;
     static constexpr Micros timeout = std::chrono::seconds(30);
 
-    static detail::Clock::time_point until(Micros wait) { return detail::after(std::chrono::duration_cast<detail::Wait>(wait)); }
+    static detail::Clock::time_point end_of(Micros wait) { return detail::after(std::chrono::duration_cast<detail::Wait>(wait)); }
 
 public:
     explicit MeterProvider(Resource resource = {}, Options options = {})
@@ -54,7 +54,8 @@ public:
     // Collects now for each reader, brings the export and flushes the exporter. Says whether all was brought in time; hooks are told why
     // not.
     bool ForceFlush(Micros wait = timeout) noexcept {
-        return !shared->is_forked() && each(wait, [](PeriodicExportingMetricReader &it, auto until) { return it.flush(until); });
+        return !shared->is_forked() &&
+               for_each_reader(wait, [](PeriodicExportingMetricReader &reader, auto until) { return reader.flush(until); });
     }
     // Collects for the last time, brings that export by each reader and ends the exporters. From then on recordings are refused as
     // KIT_CLOSED. Says whether all was brought in time; hooks are told why not. Once more it does nothing, and says false.
@@ -71,7 +72,8 @@ public:
         } catch (...) {
             return false;
         }
-        bool is_good = each(wait, [&](PeriodicExportingMetricReader &it, auto until) { return it.shutdown(last, until); });
+        bool is_good =
+            for_each_reader(wait, [&](PeriodicExportingMetricReader &reader, auto until) { return reader.shutdown(last, until); });
         return is_first && is_good;
     }
 
@@ -82,7 +84,7 @@ public:
         if (shared->process.is_another()) return 0;
         std::lock_guard<std::mutex> has(lock);
         uint64_t count = 0;
-        for (auto &it : readers) count += it->Failed();
+        for (auto &reader : readers) count += reader->Failed();
         return count;
     }
     // How many pairs of an instrument and a set are held: no more than the cache has room for.
@@ -92,20 +94,20 @@ public:
 
 private:
     template <typename Call>
-    bool each(Micros wait, Call call) noexcept {
+    bool for_each_reader(Micros wait, Call call) noexcept {
         bool is_good = true;
-        auto end = until(wait);
+        auto end = end_of(wait);
         // (a reader stays once it is here; a hook that asks this provider meanwhile is not to wait for it)
-        for (size_t number = 0; PeriodicExportingMetricReader *it = reader(number); number++) {
+        for (size_t number = 0; PeriodicExportingMetricReader *reader = find_reader(number); number++) {
             try {
-                is_good = call(*it, end) && is_good;
+                is_good = call(*reader, end) && is_good;
             } catch (...) {
                 is_good = false;
             }
         }
         return is_good;
     }
-    PeriodicExportingMetricReader *reader(size_t number) const {
+    PeriodicExportingMetricReader *find_reader(size_t number) const {
         std::lock_guard<std::mutex> has(lock);
         return number < readers.size() ? readers[number].get() : nullptr;
     }
@@ -117,7 +119,7 @@ class Provider {
         static std::mutex made;
         return made;
     }
-    static std::shared_ptr<MeterProvider> &here() {
+    static std::shared_ptr<MeterProvider> &current() {
         static std::shared_ptr<MeterProvider> made;
         return made;
     }
@@ -127,13 +129,13 @@ public:
     // statics are gone: call Shutdown before.
     static void SetMeterProvider(std::shared_ptr<MeterProvider> provider) {
         std::lock_guard<std::mutex> has(lock());
-        std::swap(here(), provider);
+        std::swap(current(), provider);
     }
     // The provider that was set. Where none was, it is one that was shut down: recordings are refused as KIT_CLOSED.
     static std::shared_ptr<MeterProvider> GetMeterProvider() {
         {
             std::lock_guard<std::mutex> has(lock());
-            if (here()) return here();
+            if (current()) return current();
         }
         static const auto none = [] {
             auto made = std::make_shared<MeterProvider>();

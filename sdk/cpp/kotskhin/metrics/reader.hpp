@@ -82,7 +82,7 @@ class Calls : public std::enable_shared_from_this<Calls> {
 public:
     explicit Calls(std::unique_ptr<PushMetricExporter> exporter) : exporter(std::move(exporter)) {}
     void start() {
-        thread.thread = std::thread([it = shared_from_this()] { it->run(); });
+        thread.thread = std::thread([calls = shared_from_this()] { calls->run(); });
     }
     // Whether no call goes on, once one has this long to end.
     bool is_free(Wait wait) {
@@ -142,7 +142,7 @@ class PeriodicExportingMetricReader {
         bool is_over = false;
         std::atomic<uint64_t> failed{0};
 
-        bool fails(detail::Fault fault, std::shared_ptr<const Export> unsent = nullptr) noexcept {
+        bool fail(detail::Fault fault, std::shared_ptr<const Export> unsent = nullptr) noexcept {
             failed.fetch_add(1, std::memory_order_relaxed);
             try {
                 if (!options.on_failed) detail::tell_line("an export failed: " + fault.why);
@@ -153,29 +153,29 @@ class PeriodicExportingMetricReader {
         }
         bool bring(const std::shared_ptr<const Export> &given) {
             Wait wait = options.export_timeout_millis;
-            auto fault = calls->call([given](PushMetricExporter &it) { it.Export(*given); }, wait, wait);
-            return fault ? fails(*fault, given) : true;
+            auto fault = calls->call([given](PushMetricExporter &exporter) { exporter.Export(*given); }, wait, wait);
+            return fault ? fail(*fault, given) : true;
         }
         // One collection, and its export: none before the provider starts, and none once it was shut down.
         bool push(Wait first) {
-            if (!calls->is_free(first)) return fails({"an export that took too long goes on", {}});
+            if (!calls->is_free(first)) return fail({"an export that took too long goes on", {}});
             std::shared_ptr<const Export> made;
             try {
                 made = std::make_shared<const Export>(shared->collect());
             } catch (const Refused &refused) {
                 if (refused.code == NOT_STARTED || refused.code == KIT_CLOSED) return true;
-                return fails({refused.what(), {}});
+                return fail({refused.what(), {}});
             } catch (const std::exception &why) {
-                return fails({why.what(), {}});
+                return fail({why.what(), {}});
             }
             return bring(made);
         }
-        bool asked(const Request &request) {
+        bool answer(const Request &request) {
             Wait wait = options.export_timeout_millis;
             bool is_good = request.is_last ? !request.last || bring(request.last) : push(wait);
             auto what = request.is_last ? &PushMetricExporter::Shutdown : &PushMetricExporter::ForceFlush;
-            auto fault = calls->call([what](PushMetricExporter &it) { (it.*what)(); }, wait, wait);
-            if (fault) fails(*fault);
+            auto fault = calls->call([what](PushMetricExporter &exporter) { (exporter.*what)(); }, wait, wait);
+            if (fault) fail(*fault);
             return is_good && !fault;
         }
         void run() {
@@ -194,7 +194,7 @@ class PeriodicExportingMetricReader {
                 auto request = requests.front();
                 requests.pop_front();
                 has.unlock();
-                bool is_good = asked(*request);
+                bool is_good = answer(*request);
                 has.lock();
                 is_over = request->is_last;
                 request->is_good = is_good;
@@ -219,7 +219,7 @@ class PeriodicExportingMetricReader {
         state->calls = detail::make_left_by_forks<detail::Calls>(std::move(exporter));
         state->calls->start();
         try {
-            thread.thread = std::thread([it = state] { it->run(); });
+            thread.thread = std::thread([state = state] { state->run(); });
         } catch (...) {
             state->calls->end();
             throw;
@@ -246,7 +246,7 @@ class PeriodicExportingMetricReader {
             thread.thread.join();
         } else {
             thread.thread.detach();
-            state->fails({"the exporter took longer than is allowed", {}}, last);
+            state->fail({"the exporter took longer than is allowed", {}}, last);
         }
         return is_good;
     }

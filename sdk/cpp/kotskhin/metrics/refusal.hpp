@@ -18,12 +18,12 @@ inline std::string reason(int32_t code) {
     case NOT_STARTED: return "NOT_STARTED: the provider has not started";
     case CARDINALITY_LIMIT: return "CARDINALITY_LIMIT: further sets are counted together, in the point otel.metric.overflow=true";
     case FORKED: return "FORKED: the provider is of the process that made it, and not of that one's fork";
-    default: return said(code);
+    default: return describe(code);
     }
 }
 
 // The exception of a code that is no library's.
-inline Refused refused(int32_t code) { return Refused(code, reason(code)); }
+inline Refused make_refused(int32_t code) { return Refused(code, reason(code)); }
 
 // A place in a program's text.
 struct Place {

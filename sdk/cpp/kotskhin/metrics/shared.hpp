@@ -101,7 +101,7 @@ struct Started {
 
     Started(Process process, const Plan &plan, const Resource &resource, size_t cache_room)
         : process(process), writer(plan, resource.service, resource.instance, now()), cache_room(cache_room) {
-        for (auto &it : plan.streams().all()) streams.push_back(it.name);
+        for (auto &stream : plan.streams().all()) streams.push_back(stream.name);
     }
 
     // The first refusal of what was taken in, and how many there were.
@@ -118,24 +118,24 @@ struct Started {
         return take_in(log);
     }
 
-    std::vector<Slot> list() {
+    std::vector<Slot> copy_slots() {
         std::lock_guard<std::mutex> has(slots_lock);
         return slots;
     }
-    static size_t len_of(Log &log) {
+    static size_t count_noted(Log &log) {
         std::lock_guard<std::mutex> has(log.lock);
         return log.recorder.len();
     }
     // Forgets the logs of threads that ended, once nothing is in them.
     void forget_left() {
         std::lock_guard<std::mutex> has(slots_lock);
-        auto is_done = [](const Slot &it) { return it.use_count() == 1 && len_of(*it) == 0; };
+        auto is_done = [](const Slot &slot) { return slot.use_count() == 1 && count_noted(*slot) == 0; };
         slots.erase(std::remove_if(slots.begin(), slots.end(), is_done), slots.end());
     }
 
     // Collects at the time of the clock, or right after the last collection where the clock was put back.
     template <typename Collect>
-    static Export at_now(Collect collect) {
+    static Export call_now(Collect collect) {
         try {
             return collect(now());
         } catch (const TimeNotAfter &refused) {
@@ -146,11 +146,11 @@ struct Started {
     Export collect(std::vector<Refusal> &refused) {
         std::lock_guard<std::mutex> has(lock);
         if (is_ended) kotskhin::detail::refuse(KIT_CLOSED);
-        for (auto &slot : list()) {
+        for (auto &slot : copy_slots()) {
             if (auto told = take_in_locked(*slot)) refused.push_back(*told);
         }
         forget_left();
-        return at_now([&](uint64_t time) { return writer.collect(time); });
+        return call_now([&](uint64_t time) { return writer.collect(time); });
     }
     // What a log has left for want of memory is lost, and told.
     Export close(std::vector<Refusal> &refused) {
@@ -160,16 +160,16 @@ struct Started {
             std::lock_guard<std::mutex> has_slots(slots_lock);
             is_closed = true;
         }
-        std::vector<Slot> all = list();
+        std::vector<Slot> all = copy_slots();
         for (auto &slot : all) {
             std::lock_guard<std::mutex> has_log(slot->lock);
             slot->is_closed = true;
             if (auto told = take_in(*slot)) refused.push_back(*told);
         }
-        Export last = at_now([&](uint64_t time) { return writer.shutdown(time); });
+        Export last = call_now([&](uint64_t time) { return writer.shutdown(time); });
         is_ended = true;
         for (auto &slot : all) {
-            if (size_t lost = len_of(*slot)) refused.push_back({"", {}, KIT_NO_MEMORY, {}, {}, lost});
+            if (size_t lost = count_noted(*slot)) refused.push_back({"", {}, KIT_NO_MEMORY, {}, {}, lost});
         }
         std::lock_guard<std::mutex> has_slots(slots_lock);
         slots.clear();
@@ -179,7 +179,7 @@ struct Started {
     // The number of a pair: that which the cache has, or a new one where it has room and nobody has the writer, since a recording is not to
     // wait for it.
     template <typename Given>
-    std::optional<size_t> new_number_of(Log &log, const At<Given> &at, std::optional<Attributes> &set) {
+    std::optional<size_t> hold_number(Log &log, const At<Given> &at, std::optional<Attributes> &set) {
         {
             auto has = process.hold<std::shared_lock>(cache_lock);
             auto found = cache.find(log.wanted);
@@ -199,10 +199,10 @@ struct Started {
     }
     // The number of a pair, whose log's lock is held; where it has none, its set.
     template <typename Given>
-    std::optional<size_t> number_of(Log &log, const At<Given> &at, std::optional<Attributes> &set) {
+    std::optional<size_t> find_number(Log &log, const At<Given> &at, std::optional<Attributes> &set) {
         at.write(log.wanted);
         auto found = log.numbers.find(log.wanted);
-        return found != log.numbers.end() ? found->second : new_number_of(log, at, set);
+        return found != log.numbers.end() ? found->second : hold_number(log, at, set);
     }
 
     // Notes a value in a log, and answers its code.
@@ -211,7 +211,7 @@ struct Started {
         auto has = process.hold(log.lock);
         if (log.is_closed) return KIT_CLOSED;
         std::optional<Attributes> set;
-        if (auto number = number_of(log, at, set)) return kit_recorder_measure_held(log.recorder.raw().at(), *number, value);
+        if (auto number = find_number(log, at, set)) return kit_recorder_measure_held(log.recorder.raw().at(), *number, value);
         return kit_recorder_measure(log.recorder.raw().at(), at.instrument, set->raw().at(), value);
     }
     // Records a value at once, which waits for the writer. Of a gauge the last value counts, and values that wait in two logs have no
@@ -223,7 +223,7 @@ struct Started {
         std::optional<size_t> number;
         {
             std::lock_guard<std::mutex> has(log.lock);
-            number = number_of(log, at, set);
+            number = find_number(log, at, set);
         }
         std::lock_guard<std::mutex> has(lock);
         if (number) writer.measure_held(*number, value);
@@ -233,7 +233,7 @@ struct Started {
 
 class Shared;
 // The log of this thread at a provider, which it is given where it has none; none where the thread is ending.
-inline Log *of_this_thread(Shared &shared);
+inline Log *find_own_log(Shared &shared);
 
 class Shared : public std::enable_shared_from_this<Shared> {
     Options options;
@@ -250,7 +250,7 @@ class Shared : public std::enable_shared_from_this<Shared> {
 
     // The views of an instrument that can be applied to it. Another is passed over, as if it was not there (OpenTelemetry Metrics SDK,
     // "View"): which one, and why.
-    std::vector<View> views_of(const Declared &instrument, std::vector<Refused> &passed_over) const {
+    std::vector<View> select_views(const Declared &instrument, std::vector<Refused> &passed_over) const {
         // (what is refused without a view is no view's fault)
         Instruments().add(instrument, {}, options.limit);
         std::vector<View> of;
@@ -291,7 +291,7 @@ public:
         is_telling = false;
     }
     void refuse(const std::vector<Refusal> &list) noexcept {
-        for (auto &it : list) refuse(it);
+        for (auto &refusal : list) refuse(refusal);
     }
     // Whether this is a fork of the process that made the provider, which is told.
     bool is_forked() noexcept {
@@ -315,8 +315,8 @@ public:
         std::lock_guard<std::mutex> has(declaring);
         if (auto there = instruments.find(instrument)) return *there;
         if (is_closed_early) kotskhin::detail::refuse(KIT_CLOSED);
-        if (started) throw metrics::refused(DECLARED_LATE);
-        std::vector<View> of = views_of(instrument, passed_over);
+        if (started) throw metrics::make_refused(DECLARED_LATE);
+        std::vector<View> of = select_views(instrument, passed_over);
         if (of.empty() && boundaries) of.push_back({"", Aggregation::AsKind, boundaries, {}});
         return instruments.add(std::move(instrument), std::move(of), options.limit);
     }
@@ -350,7 +350,7 @@ public:
     int32_t record(const At<Given> &at, int64_t value) {
         Started &to = start();
         if (at.is_too_wide()) return VALUE_TOO_WIDE;
-        Log *log = of_this_thread(*this);
+        Log *log = find_own_log(*this);
         if (!log) {
             process.check();
             std::lock_guard<std::mutex> has(to.lock);
@@ -376,8 +376,8 @@ public:
         process.check();
         Started *at = started;
         if (!at && is_closed()) kotskhin::detail::refuse(KIT_CLOSED);
-        if (!at) throw metrics::refused(NOT_STARTED);
-        return with_told(*at, [&](auto &told) { return at->collect(told); });
+        if (!at) throw metrics::make_refused(NOT_STARTED);
+        return tell_after(*at, [&](auto &told) { return at->collect(told); });
     }
     // Collects for the last time: nothing is recorded from then on. There is no export where nothing was started.
     std::optional<Export> close() {
@@ -389,7 +389,7 @@ public:
             if (is_closed_early) return {};
         }
         Started *at = started;
-        return with_told(*at, [&](auto &told) { return at->close(told); });
+        return tell_after(*at, [&](auto &told) { return at->close(told); });
     }
     // How many pairs are held; how many logs there are. In a fork there are none.
     size_t cached() const {
@@ -400,7 +400,7 @@ public:
     }
     size_t logs() const {
         Started *at = started;
-        return !at || process.is_another() ? 0 : at->list().size();
+        return !at || process.is_another() ? 0 : at->copy_slots().size();
     }
 
     // Takes in the log of a thread that ends, where nobody has the writer: else the next collection does.
@@ -412,7 +412,7 @@ public:
             std::unique_lock<std::mutex> has(at->lock, std::try_to_lock);
             if (!has) return;
             told = at->take_in_locked(*slot);
-            if (Started::len_of(*slot) == 0) {
+            if (Started::count_noted(*slot) == 0) {
                 std::lock_guard<std::mutex> has_slots(at->slots_lock);
                 at->slots.erase(std::remove(at->slots.begin(), at->slots.end(), slot), at->slots.end());
             }
@@ -428,7 +428,7 @@ private:
     }
     // A collection, and then what it tells.
     template <typename Call>
-    Export with_told(Started &at, Call call) {
+    Export tell_after(Started &at, Call call) {
         std::vector<Refusal> told;
         try {
             Export made = call(told);
@@ -467,20 +467,20 @@ struct Owns {
     // The thread ends, and what it noted is taken in, at once or with the next collection.
     ~Owns() {
         *is_gone = true;
-        for (auto &it : list) {
-            if (auto shared = it.shared.lock()) shared->take_in_of_ending_thread(it.slot);
+        for (auto &own : list) {
+            if (auto shared = own.shared.lock()) shared->take_in_of_ending_thread(own.slot);
         }
     }
 };
 
-inline Log *of_this_thread(Shared &shared) {
+inline Log *find_own_log(Shared &shared) {
     static thread_local bool is_gone = false;
     if (is_gone) return nullptr;
     static thread_local Owns own(&is_gone);
-    for (auto &it : own.list) {
-        if (it.is_of(shared)) return it.slot.get();
+    for (auto &one : own.list) {
+        if (one.is_of(shared)) return one.slot.get();
     }
-    auto is_over = [](const Owns::Own &it) { return it.shared.expired(); };
+    auto is_over = [](const Owns::Own &one) { return one.shared.expired(); };
     own.list.erase(std::remove_if(own.list.begin(), own.list.end(), is_over), own.list.end());
     own.list.push_back({&shared, shared.weak_from_this(), shared.new_slot()});
     return own.list.back().slot.get();

@@ -15,7 +15,7 @@ struct Declared {
     // Whether both are one, but for the unit: names are taken without regard to case.
     bool is_named_as(const Declared &other) const { return kind == other.kind && scope == other.scope && same_name(name, other.name); }
     static bool same_name(std::string_view one, std::string_view other) {
-        auto lower = [](char it) { return it >= 'A' && it <= 'Z' ? static_cast<char>(it + 32) : it; };
+        auto lower = [](char letter) { return letter >= 'A' && letter <= 'Z' ? static_cast<char>(letter + 32) : letter; };
         auto same = [&](char a, char b) { return lower(a) == lower(b); };
         return one.size() == other.size() && std::equal(one.begin(), one.end(), other.begin(), same);
     }
@@ -58,11 +58,11 @@ struct ViewOf {
     MeterSelector meters;
     View view;
 
-    bool is_of(const Declared &it) const {
-        if (instruments.kind && *instruments.kind != it.kind) return false;
-        if (instruments.unit && *instruments.unit != it.unit) return false;
-        if (!meters.name.empty() && meters.name != it.scope) return false;
-        return instruments.name == "*" || Declared::same_name(instruments.name, it.name);
+    bool is_of(const Declared &instrument) const {
+        if (instruments.kind && *instruments.kind != instrument.kind) return false;
+        if (instruments.unit && *instruments.unit != instrument.unit) return false;
+        if (!meters.name.empty() && meters.name != instrument.scope) return false;
+        return instruments.name == "*" || Declared::same_name(instruments.name, instrument.name);
     }
 };
 

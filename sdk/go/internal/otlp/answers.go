@@ -5,14 +5,14 @@ import "strings"
 // Rejected reads the body of an answer, an ExportMetricsServiceResponse: how many points were refused, and why. Fields that are not known
 // are passed over, and of a field that comes twice the last one counts.
 func Rejected(answer []byte) (points int64, why string, err error) {
-	err = messages(answer, 1, func(partial []byte) error {
-		return each(partial, func(it field) error {
+	err = forEachMessage(answer, 1, func(partial []byte) error {
+		return forEach(partial, func(f field) error {
 			switch {
-			case it.number == 1 && it.wire == wireNumber:
-				value, _ := number(it.content)
+			case f.number == 1 && f.wire == wireNumber:
+				value, _ := readNumber(f.content)
 				points = int64(value)
-			case it.number == 2 && it.wire == wireBytes:
-				why = strings.ToValidUTF8(string(it.content), "\uFFFD")
+			case f.number == 2 && f.wire == wireBytes:
+				why = strings.ToValidUTF8(string(f.content), "\uFFFD")
 			}
 			return nil
 		})

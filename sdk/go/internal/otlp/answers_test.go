@@ -20,7 +20,7 @@ func varint(value uint64) string {
 
 func TestAnswersAreRead(t *testing.T) {
 	good := taken(3, "why")
-	for _, it := range []struct {
+	for _, test := range []struct {
 		answer string
 		points int64
 		why    string
@@ -32,8 +32,8 @@ func TestAnswersAreRead(t *testing.T) {
 		{"\x0a\x09\x0a\x01a\x10\x07\x18\x07\x08\x03", 3, ""}, {good + "\x0a\x02\x08\x05", 5, "why"},
 		{"\x0a\x0b\x08\xff\xff\xff\xff\xff\xff\xff\xff\xff\x01", -1, ""},
 	} {
-		if points, why, err := Rejected([]byte(it.answer)); points != it.points || why != it.why || err != nil {
-			t.Errorf("%q: %d, %q, %v", it.answer, points, why, err)
+		if points, why, err := Rejected([]byte(test.answer)); points != test.points || why != test.why || err != nil {
+			t.Errorf("%q: %d, %q, %v", test.answer, points, why, err)
 		}
 	}
 	bad := []string{"\x00", "{}", "OK\n", "\x0a\x02\x08", good + "\x0a", good + "\x0b", "\x0a\x0c\x08" + strings.Repeat("\xff", 11)}

@@ -172,7 +172,8 @@ pub const fn places(code: i32) -> &'static [&'static str] {
         BAD_BOUNDS | BAD_RENAME | WILDCARD_RENAME => &["view"],
         BAD_AGGREGATION => &["instrument", "view"],
         SAME_STREAM => &["instrument", "instrument"],
-        OTLP_BOUNDS | NO_RECORDED_VALUE | UNKNOWN_START | FLOAT_VALUE | NO_POINT_VALUE | NO_SUM | NOT_WHOLE | INEXACT | NOT_RISING | HALF_RANGE | NO_KEY | ATTRIBUTE_TWICE | ATTRIBUTE_VALUE | TOO_MANY_ATTRIBUTES => &["point"],
+        OTLP_BOUNDS | NO_RECORDED_VALUE | UNKNOWN_START | FLOAT_VALUE | NO_POINT_VALUE | NO_SUM | NOT_WHOLE | INEXACT | NOT_RISING |
+            HALF_RANGE | NO_KEY | ATTRIBUTE_TWICE | ATTRIBUTE_VALUE | TOO_MANY_ATTRIBUTES => &["point"],
         NO_SERVICE | NO_INSTANCE | NOT_UUID => &["resource"],
         SCOPE_TWICE => &["scope"],
         EXPONENTIAL_HISTOGRAM | SUMMARY | NO_DATA | DELTA | NO_TEMPORALITY => &["metric"],

@@ -3,7 +3,7 @@ use crate::error::{Error, check};
 use crate::export::Export;
 use crate::gateway::Gateway;
 use crate::handle::Handle;
-use crate::writer::drawn_instance;
+use crate::writer::draw_instance;
 use kotskhin_sys::{
     self as sys, kit_archive_adopt, kit_archive_begin, kit_archive_export, kit_archive_read,
     kit_archive_seal,
@@ -27,7 +27,7 @@ impl Archive {
     /// An archive that adopted nothing, with at most `limit` totals. It begins under the start 1, before every worker, and under an instance
     /// that is drawn anew. Refused: `NoMemory`.
     pub fn begin(service: &str, limit: usize) -> Result<Archive, Error> {
-        Archive::begin_under(service, drawn_instance(), START, limit)
+        Archive::begin_under(service, draw_instance(), START, limit)
     }
 
     /// The same under an identity that the caller says, for tests that compare it. Of two archives that share service, instance and start a

@@ -1,5 +1,5 @@
 //! Asks of gateways.
-use crate::attributes::{AttributeValue, pairs_of};
+use crate::attributes::{AttributeValue, make_pairs};
 use crate::error::{Error, check};
 use crate::handle::Handle;
 use crate::streams::Streams;
@@ -89,7 +89,7 @@ impl Ask {
         &mut self,
         pairs: impl IntoIterator<Item = (impl AsRef<str>, V)>,
     ) -> Result<(), Error> {
-        let mut pairs = pairs_of(pairs)?;
+        let mut pairs = make_pairs(pairs)?;
         // SAFETY: both handles are ours alone, and they are two.
         check(unsafe { kit_ask_only(self.0.change(), pairs.change()) })
     }

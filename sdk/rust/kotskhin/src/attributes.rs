@@ -59,14 +59,16 @@ impl<'a> From<&'a OwnedValue> for AttributeValue<'a> {
 }
 
 /// The pairs of a set, in the order of their keys.
-pub(crate) fn pairs_in(set: &Handle<sys::Attributes>) -> Result<Vec<(String, OwnedValue)>, Error> {
+pub(crate) fn read_pairs(
+    set: &Handle<sys::Attributes>,
+) -> Result<Vec<(String, OwnedValue)>, Error> {
     let mut count = 0;
     // SAFETY: the set is lent.
     check(unsafe { kit_attributes_len(set.read().at(), &mut count) })?;
-    (0..count).map(|number| pair_in(set, number)).collect()
+    (0..count).map(|number| read_pair(set, number)).collect()
 }
 
-fn pair_in(set: &Handle<sys::Attributes>, number: usize) -> Result<(String, OwnedValue), Error> {
+fn read_pair(set: &Handle<sys::Attributes>, number: usize) -> Result<(String, OwnedValue), Error> {
     // SAFETY: the set is lent, here and below, and the room is a slice's.
     let key = copy_by(|room, len| unsafe {
         kit_attributes_key(set.read().at(), number, room.as_mut_ptr(), room.len(), len)
@@ -87,7 +89,7 @@ fn pair_in(set: &Handle<sys::Attributes>, number: usize) -> Result<(String, Owne
 }
 
 /// Pairs, in the order in which they come.
-pub(crate) fn pairs_of<'a, V: Into<AttributeValue<'a>>>(
+pub(crate) fn make_pairs<'a, V: Into<AttributeValue<'a>>>(
     pairs: impl IntoIterator<Item = (impl AsRef<str>, V)>,
 ) -> Result<Handle<sys::Pairs>, Error> {
     let mut handle = Handle::empty();
@@ -112,7 +114,7 @@ pub(crate) fn pairs_of<'a, V: Into<AttributeValue<'a>>>(
     Ok(handle)
 }
 
-fn set_of(pairs: &Handle<sys::Pairs>) -> Result<Handle<sys::Attributes>, Error> {
+fn make_set(pairs: &Handle<sys::Pairs>) -> Result<Handle<sys::Attributes>, Error> {
     let (mut set, mut place) = (Handle::empty(), 0);
     // SAFETY: the set is ours alone, and the pairs are lent.
     let code = unsafe { kit_attributes_make(set.change(), pairs.read().at(), &mut place) };
@@ -126,7 +128,7 @@ pub struct Attributes {
     set: Handle<sys::Attributes>,
     pairs: Handle<sys::Pairs>,
     /// An equal set for calls that have theirs for themselves, once there was one.
-    apart: Mutex<Handle<sys::Attributes>>,
+    copy: Mutex<Handle<sys::Attributes>>,
 }
 
 impl Attributes {
@@ -134,11 +136,11 @@ impl Attributes {
     pub fn new<'a, V: Into<AttributeValue<'a>>>(
         pairs: impl IntoIterator<Item = (impl AsRef<str>, V)>,
     ) -> Result<Attributes, Error> {
-        let pairs = pairs_of(pairs)?;
+        let pairs = make_pairs(pairs)?;
         Ok(Attributes {
-            set: set_of(&pairs)?,
+            set: make_set(&pairs)?,
             pairs,
-            apart: Mutex::new(Handle::empty()),
+            copy: Mutex::new(Handle::empty()),
         })
     }
 
@@ -149,7 +151,7 @@ impl Attributes {
 
     /// Its pairs, in the order of their keys: each key once. Refused: `NoMemory`.
     pub fn pairs(&self) -> Result<Vec<(String, OwnedValue)>, Error> {
-        pairs_in(&self.set)
+        read_pairs(&self.set)
     }
 
     /// For a call that only reads the set.
@@ -159,11 +161,11 @@ impl Attributes {
     }
 
     /// For a call that has its set for itself: to hold it is one.
-    pub(crate) fn apart(&self) -> Result<MutexGuard<'_, Handle<sys::Attributes>>, Error> {
-        let mut apart = self.apart.lock().unwrap_or_else(PoisonError::into_inner);
-        if apart.is_empty() {
-            *apart = set_of(&self.pairs)?;
+    pub(crate) fn lock_copy(&self) -> Result<MutexGuard<'_, Handle<sys::Attributes>>, Error> {
+        let mut copy = self.copy.lock().unwrap_or_else(PoisonError::into_inner);
+        if copy.is_empty() {
+            *copy = make_set(&self.pairs)?;
         }
-        Ok(apart)
+        Ok(copy)
     }
 }

@@ -23,7 +23,7 @@ macro_rules! refusals {
 
         impl $all {
             /// That of a code, with the places that it tells.
-            fn of(code: i32, place: u64, second: u64) -> Option<$all> {
+            fn try_from_code(code: i32, place: u64, second: u64) -> Option<$all> {
                 #[allow(unused_mut)]
                 let mut places = [place, second].into_iter();
                 Some(match code {
@@ -33,9 +33,9 @@ macro_rules! refusals {
             }
 
             /// Its name, its code, and the places that it tells.
-            fn parts(&self) -> Option<(&'static str, i32, Vec<u64>)> {
+            fn to_parts(self) -> Option<(&'static str, i32, Vec<u64>)> {
                 #[allow(unreachable_patterns)]
-                Some(match *self {
+                Some(match self {
                     $($all::$name $({ $($place),+ })? => (stringify!($name), sys::$code, vec![$($($place),+)?]),)+
                     _ => return None,
                 })
@@ -221,17 +221,17 @@ refusals! {
 impl Error {
     /// The refusal of a code, with the places that it tells.
     #[cold]
-    pub(crate) fn of_code(code: i32, place: u64, second: u64) -> Error {
-        let request = || RequestFault::of(code, place, second).map(Error::Request);
-        let known = Error::of(code, place, second).or_else(request);
+    pub(crate) fn from_code(code: i32, place: u64, second: u64) -> Error {
+        let request = || RequestFault::try_from_code(code, place, second).map(Error::Request);
+        let known = Error::try_from_code(code, place, second).or_else(request);
         known.unwrap_or(Error::Unexpected(code))
     }
 
     /// What the library has of it: its name here, its code, and its places. The others are of this crate alone.
-    fn in_library(&self) -> Option<(&'static str, i32, Vec<u64>)> {
+    fn library_parts(&self) -> Option<(&'static str, i32, Vec<u64>)> {
         match self {
-            Error::Request(fault) => fault.parts(),
-            other => other.parts(),
+            Error::Request(fault) => fault.to_parts(),
+            other => other.to_parts(),
         }
     }
 
@@ -243,7 +243,9 @@ impl Error {
             Error::DeclaredLate => "DeclaredLate",
             Error::CardinalityLimit { .. } => "CardinalityLimit",
             Error::Forked => "Forked",
-            other => other.in_library().map_or("Unexpected", |(name, _, _)| name),
+            other => other
+                .library_parts()
+                .map_or("Unexpected", |(name, _, _)| name),
         }
     }
 
@@ -251,13 +253,13 @@ impl Error {
     pub fn code(&self) -> Option<i32> {
         match self {
             Error::Unexpected(code) => Some(*code),
-            other => other.in_library().map(|(_, code, _)| code),
+            other => other.library_parts().map(|(_, code, _)| code),
         }
     }
 
     /// Its places, each with the word for it, as `("instrument", 3)`.
     pub fn places(&self) -> Vec<(&'static str, u64)> {
-        let Some((_, code, places)) = self.in_library() else {
+        let Some((_, code, places)) = self.library_parts() else {
             return Vec::new();
         };
         sys::places(code).iter().copied().zip(places).collect()
@@ -291,16 +293,16 @@ impl Error {
             Error::Forked => {
                 "it was made before a fork, by another process: make one in this process".to_owned()
             }
-            Error::Unexpected(code) => format!("unexpected code {code}: {}", text_of(*code)),
+            Error::Unexpected(code) => format!("unexpected code {code}: {}", code_text(*code)),
             other => other
-                .in_library()
-                .map_or(String::new(), |(_, code, _)| text_of(code)),
+                .library_parts()
+                .map_or(String::new(), |(_, code, _)| code_text(code)),
         }
     }
 }
 
 /// What the library says of a code: nothing of one that it has not.
-fn text_of(code: i32) -> String {
+fn code_text(code: i32) -> String {
     let mut none = [];
     // SAFETY: the room is a slice's, here and below.
     let len = unsafe { kit_code_text(code, none.as_mut_ptr(), 0) };
@@ -327,7 +329,7 @@ pub(crate) fn check_both(code: i32, place: u64, second: u64) -> Result<(), Error
     if code == sys::OK {
         Ok(())
     } else {
-        Err(Error::of_code(code, place, second))
+        Err(Error::from_code(code, place, second))
     }
 }
 
@@ -349,7 +351,7 @@ impl std::error::Error for RequestFault {}
 
 #[cfg(test)]
 mod tests {
-    use super::{Error, sys, text_of};
+    use super::{Error, code_text, sys};
 
     /// Codes that no call of these types answers.
     const IMPOSSIBLE: [i32; 5] = [
@@ -364,14 +366,14 @@ mod tests {
     #[test]
     fn each_code_has_its_refusal_its_text_and_its_places() {
         let mut seen = 0;
-        for code in (1..1000).filter(|code| !text_of(*code).is_empty()) {
-            let refusal = Error::of_code(code, 3, 4);
+        for code in (1..1000).filter(|code| !code_text(*code).is_empty()) {
+            let refusal = Error::from_code(code, 3, 4);
             if IMPOSSIBLE.contains(&code) {
                 assert_eq!(refusal, Error::Unexpected(code));
                 continue;
             }
             seen += 1;
-            assert_ne!(refusal, Error::Unexpected(code), "{}", text_of(code));
+            assert_ne!(refusal, Error::Unexpected(code), "{}", code_text(code));
             assert_eq!(refusal.code(), Some(code));
             let words = sys::places(code);
             let wanted: Vec<(&str, u64)> = words.iter().copied().zip([3, 4]).collect();
@@ -381,8 +383,8 @@ mod tests {
                 .map(|(word, place)| format!("{word} {place}"))
                 .collect();
             let shown = match places.is_empty() {
-                true => text_of(code),
-                false => format!("{} ({})", text_of(code), places.join(", ")),
+                true => code_text(code),
+                false => format!("{} ({})", code_text(code), places.join(", ")),
             };
             assert_eq!(refusal.to_string(), shown);
             assert!(format!("{refusal:?}").contains(refusal.name()));
@@ -402,14 +404,14 @@ mod tests {
             assert_eq!((refusal.name(), refusal.code()), (name, None));
             assert!(refusal.places().is_empty() && !refusal.to_string().is_empty());
         }
-        let unexpected = Error::of_code(-7, 1, 2);
+        let unexpected = Error::from_code(-7, 1, 2);
         assert_eq!(
             (unexpected, unexpected.code()),
             (Error::Unexpected(-7), Some(-7))
         );
         assert_eq!(
             Error::Unexpected(2).to_string(),
-            format!("unexpected code 2: {}", text_of(2))
+            format!("unexpected code 2: {}", code_text(2))
         );
     }
 }

@@ -25,7 +25,7 @@ pub(crate) fn copy_by(
 }
 
 /// The text that a handle has.
-pub(crate) fn text_in(text: &Handle<sys::Text>) -> Result<String, Error> {
+pub(crate) fn copy_text(text: &Handle<sys::Text>) -> Result<String, Error> {
     // SAFETY: the text is lent, and the room is a slice's.
     let bytes = copy_by(|room, len| unsafe {
         kit_text_copy(text.read().at(), room.as_mut_ptr(), room.len(), len)
@@ -37,7 +37,7 @@ pub(crate) fn text_in(text: &Handle<sys::Text>) -> Result<String, Error> {
 }
 
 /// The bytes that a handle has.
-pub(crate) fn bytes_in(bytes: &Handle<sys::Bytes>) -> Result<Vec<u8>, Error> {
+pub(crate) fn copy_bytes(bytes: &Handle<sys::Bytes>) -> Result<Vec<u8>, Error> {
     // SAFETY: the bytes are lent, and the room is a slice's.
     copy_by(|room, len| unsafe {
         kit_bytes_copy(bytes.read().at(), room.as_mut_ptr(), room.len(), len)
@@ -99,7 +99,7 @@ impl Export {
         let mut bytes = Handle::empty();
         // SAFETY: the export is lent, and the bytes are ours alone; they are two.
         check(unsafe { kit_export_encode(self.0.read().at(), bytes.change()) })?;
-        bytes_in(&bytes)
+        copy_bytes(&bytes)
     }
 
     /// The request of OTLP that brings it to a Collector: the body of a POST to `/v1/metrics`, with `Content-Type:
@@ -109,7 +109,7 @@ impl Export {
         // SAFETY: the export is lent, and the bytes are ours alone; they are two.
         let code = unsafe { kit_export_otlp(self.0.read().at(), bytes.change(), &mut place) };
         check_at(code, place)?;
-        bytes_in(&bytes)
+        copy_bytes(&bytes)
     }
 
     /// The export of bytes that `encode` made. Refused, for the first thing that is wrong: `Truncated`, `BadMagic`, `BadVersion`,

@@ -1,9 +1,9 @@
 //! Gateways.
 use crate::ask::Ask;
 use crate::error::{Error, check, check_at};
-use crate::export::{Export, bytes_in, copy_by, text_in};
+use crate::export::{Export, copy_by, copy_bytes, copy_text};
 use crate::handle::Handle;
-use crate::incarnations::{Incarnation, incarnations_in};
+use crate::incarnations::{Incarnation, read_incarnations};
 use crate::message::Message;
 use crate::rows::Rows;
 use crate::streams::Streams;
@@ -143,7 +143,7 @@ impl Gateway {
         let mut list = Handle::empty();
         // SAFETY: the gateway is lent, and the list is ours alone.
         check(unsafe { kit_gateway_incarnations(self.0.read().at(), list.change()) })?;
-        incarnations_in(&list)
+        read_incarnations(&list)
     }
 
     /// The services of which it holds points, each once.
@@ -168,21 +168,21 @@ impl Gateway {
     ///
     /// Refused: `NoMemory`.
     pub fn openmetrics(&self, service: Option<&str>) -> Result<String, Error> {
-        self.page(service, kit_gateway_openmetrics)
+        self.render_page(service, kit_gateway_openmetrics)
     }
 
     /// The same page in Prometheus' text format 0.0.4, with `Content-Type: text/plain; version=0.0.4; charset=utf-8`. Refused: `NoMemory`.
     pub fn prometheus(&self, service: Option<&str>) -> Result<String, Error> {
-        self.page(service, kit_gateway_prometheus)
+        self.render_page(service, kit_gateway_prometheus)
     }
 
-    fn page(&self, service: Option<&str>, call: Page) -> Result<String, Error> {
+    fn render_page(&self, service: Option<&str>, call: Page) -> Result<String, Error> {
         let (mut text, only) = (Handle::empty(), service.is_some());
         let service = service.unwrap_or_default();
         let (at, len) = (service.as_ptr(), service.len());
         // SAFETY: the gateway is lent, the text is ours alone, and the service is a slice's pointer and length.
         check(unsafe { call(self.0.read().at(), only, at, len, text.change()) })?;
-        text_in(&text)
+        copy_text(&text)
     }
 
     /// Its points as bytes, to be kept. [`merge_bytes`](Self::merge_bytes) brings them back. Refused: `NoMemory`.
@@ -190,7 +190,7 @@ impl Gateway {
         let mut bytes = Handle::empty();
         // SAFETY: the gateway is lent, and the bytes are ours alone.
         check(unsafe { kit_gateway_encode(self.0.read().at(), bytes.change()) })?;
-        bytes_in(&bytes)
+        copy_bytes(&bytes)
     }
 
     /// The greatest time held of the incarnation of a service's instance that began at `start`: what was collected up to it has

@@ -25,7 +25,7 @@ impl Home {
         }
     }
 
-    /// Takes a lock. Where it is free nothing is asked, and where it is not it is wait_for for at home alone. Refused: `Forked`. (No panic
+    /// Takes a lock. Where it is free nothing is asked, and where it is not it is waited for at home alone. Refused: `Forked`. (No panic
     /// leaves what a lock is of half changed, so one that a panic has poisoned is as good as before.)
     #[inline]
     pub fn lock<T>(self, lock: &Mutex<T>) -> Result<MutexGuard<'_, T>, Error> {

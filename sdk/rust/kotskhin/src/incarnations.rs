@@ -18,14 +18,18 @@ pub struct Incarnation {
 }
 
 /// Those of a list: all of a service are side by side.
-pub(crate) fn incarnations_in(list: &Handle<sys::Incarnations>) -> Result<Vec<Incarnation>, Error> {
+pub(crate) fn read_incarnations(
+    list: &Handle<sys::Incarnations>,
+) -> Result<Vec<Incarnation>, Error> {
     let mut count = 0;
     // SAFETY: the list is lent.
     check(unsafe { kit_incarnations_len(list.read().at(), &mut count) })?;
-    (0..count).map(|number| incarnation(list, number)).collect()
+    (0..count)
+        .map(|number| read_incarnation(list, number))
+        .collect()
 }
 
-fn incarnation(list: &Handle<sys::Incarnations>, number: usize) -> Result<Incarnation, Error> {
+fn read_incarnation(list: &Handle<sys::Incarnations>, number: usize) -> Result<Incarnation, Error> {
     let (mut high, mut low, mut start, mut newest, mut points) = (0, 0, 0, 0, 0);
     // SAFETY: the list is lent, here and below, and the room is a slice's.
     check(unsafe {

@@ -7,14 +7,14 @@ use std::os::fd::AsFd;
 /// The most characters of a line.
 const MOST: usize = 2048;
 
-pub(crate) fn without_controls(text: &str) -> String {
+pub(crate) fn strip_controls(text: &str) -> String {
     text.chars().filter(|c| !c.is_control()).collect()
 }
 
 /// Writes one line. It goes by the descriptor: the lock that std has for the standard error may be one that is never given back, in a child
 /// of a fork.
 pub(crate) fn log(what: &impl fmt::Display) {
-    let text: String = without_controls(&what.to_string())
+    let text: String = strip_controls(&what.to_string())
         .chars()
         .take(MOST)
         .collect();

@@ -1,8 +1,8 @@
 //! What gateways tell each other.
 use crate::error::{Error, check, check_at};
-use crate::export::bytes_in;
+use crate::export::copy_bytes;
 use crate::handle::Handle;
-use crate::incarnations::{Incarnation, incarnations_in};
+use crate::incarnations::{Incarnation, read_incarnations};
 use kotskhin_sys::{
     self as sys, kit_message_decode, kit_message_encode, kit_message_incarnations, kit_message_read,
 };
@@ -25,7 +25,7 @@ impl Message {
         let mut bytes = Handle::empty();
         // SAFETY: the message is lent, and the bytes are ours alone; they are two.
         check(unsafe { kit_message_encode(self.0.read().at(), bytes.change()) })?;
-        bytes_in(&bytes)
+        copy_bytes(&bytes)
     }
 
     /// The message of bytes that `encode` made. Refused as `Export::decode` is, `BadExport` where a point is none that an export
@@ -45,7 +45,7 @@ impl Message {
         let mut list = Handle::empty();
         // SAFETY: the message is lent, and the list is ours alone.
         check(unsafe { kit_message_incarnations(self.0.read().at(), list.change()) })?;
-        incarnations_in(&list)
+        read_incarnations(&list)
     }
 
     /// What stands on it.

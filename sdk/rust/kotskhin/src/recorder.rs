@@ -23,7 +23,7 @@ pub struct Taken {
 impl From<sys::Taken> for Taken {
     fn from(taken: sys::Taken) -> Taken {
         let first = || {
-            let why = Error::of_code(taken.code, taken.place, 0);
+            let why = Error::from_code(taken.code, taken.place, 0);
             (taken.first, why)
         };
         Taken {

@@ -1,7 +1,7 @@
 //! Rows of gateways' answers.
-use crate::attributes::{OwnedValue, pairs_in};
+use crate::attributes::{OwnedValue, read_pairs};
 use crate::error::{Error, check};
-use crate::export::text_in;
+use crate::export::copy_text;
 use crate::handle::Handle;
 use kotskhin_sys::{
     self as sys, kit_rows_attributes, kit_rows_buckets, kit_rows_len, kit_rows_read, kit_rows_table,
@@ -73,17 +73,17 @@ impl Rows {
         let mut row = sys::Row::default();
         // SAFETY: the rows are lent.
         check(unsafe { kit_rows_read(self.0.read().at(), number, &mut row) })?;
-        let sum = wide_sum(row.sum_high, row.sum_low);
+        let sum = join_sum(row.sum_high, row.sum_low);
         Ok(Row {
-            attributes: self.attributes(number)?,
+            attributes: self.read_attributes(number)?,
             points: row.points,
             conflicts: row.conflicts,
             total: match row.shape {
                 GAUGE => Total::Gauge(row.has_value.then_some((row.time, row.value))),
                 HISTOGRAM => Total::Histogram {
-                    count: wide_count(row.count_high, row.count_low),
+                    count: join_count(row.count_high, row.count_low),
                     sum,
-                    buckets: self.buckets(number, row.buckets)?,
+                    buckets: self.read_buckets(number, row.buckets)?,
                     range: row.has_range.then_some((row.least, row.greatest)),
                 },
                 _ => Total::Sum(sum),
@@ -91,21 +91,21 @@ impl Rows {
         })
     }
 
-    fn attributes(&self, number: usize) -> Result<Vec<(String, OwnedValue)>, Error> {
+    fn read_attributes(&self, number: usize) -> Result<Vec<(String, OwnedValue)>, Error> {
         let mut set = Handle::empty();
         // SAFETY: the rows are lent, and the set is ours alone.
         check(unsafe { kit_rows_attributes(self.0.read().at(), number, set.change()) })?;
-        pairs_in(&set)
+        read_pairs(&set)
     }
 
-    fn buckets(&self, number: usize, many: usize) -> Result<Vec<u128>, Error> {
+    fn read_buckets(&self, number: usize, many: usize) -> Result<Vec<u128>, Error> {
         let (mut counts, mut len) = (vec![sys::Count::default(); many], 0);
         let (mut lent, into) = (self.0.read(), counts.as_mut_ptr());
         // SAFETY: the rows are lent, and the room is the vector's.
         check(unsafe { kit_rows_buckets(lent.at(), number, into, many, &mut len) })?;
         let counts = counts.into_iter();
         Ok(counts
-            .map(|count| wide_count(count.high, count.low))
+            .map(|count| join_count(count.high, count.low))
             .collect())
     }
 
@@ -114,15 +114,15 @@ impl Rows {
         let mut table = Handle::empty();
         // SAFETY: the table is ours alone, and the rows are lent; they are two.
         check(unsafe { kit_rows_table(self.0.read().at(), table.change()) })?;
-        text_in(&table)
+        copy_text(&table)
     }
 }
 
 /// A number of two halves.
-fn wide_sum(high: i64, low: u64) -> i128 {
+fn join_sum(high: i64, low: u64) -> i128 {
     i128::from(high) << 64 | i128::from(low)
 }
 
-fn wide_count(high: u64, low: u64) -> u128 {
+fn join_count(high: u64, low: u64) -> u128 {
     u128::from(high) << 64 | u128::from(low)
 }

@@ -57,7 +57,7 @@ impl Seat {
         attributes: &Attributes,
     ) -> Result<HeldNumber, Error> {
         let mut number = 0;
-        let mut set = attributes.apart()?;
+        let mut set = attributes.lock_copy()?;
         // SAFETY: both handles are ours alone, and they are two.
         check(unsafe { kit_seat_hold(self.0.change(), instrument, set.change(), &mut number) })?;
         Ok(HeldNumber(number))

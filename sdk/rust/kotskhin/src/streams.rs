@@ -56,21 +56,21 @@ impl Streams {
         // SAFETY: the streams are lent.
         check(unsafe { kit_streams_shape(self.0.read().at(), number, &mut shape, &mut bounds) })?;
         Ok(Stream {
-            scope: self.text(number, 0)?,
-            name: self.text(number, 1)?,
-            unit: self.text(number, 2)?,
+            scope: self.read_text(number, 0)?,
+            name: self.read_text(number, 1)?,
+            unit: self.read_text(number, 2)?,
             shape: match shape {
                 0 => Shape::Sum { monotonic: true },
                 1 => Shape::Sum { monotonic: false },
                 2 => Shape::Gauge,
                 _ => Shape::Histogram {
-                    bounds: self.bounds(number, bounds)?,
+                    bounds: self.read_bounds(number, bounds)?,
                 },
             },
         })
     }
 
-    fn text(&self, number: usize, part: u8) -> Result<String, Error> {
+    fn read_text(&self, number: usize, part: u8) -> Result<String, Error> {
         // SAFETY: the streams are lent, and the room is a slice's.
         let bytes = copy_by(|room, len| unsafe {
             kit_streams_text(
@@ -85,7 +85,7 @@ impl Streams {
         Ok(String::from_utf8_lossy(&bytes).into_owned())
     }
 
-    fn bounds(&self, number: usize, count: usize) -> Result<Vec<i64>, Error> {
+    fn read_bounds(&self, number: usize, count: usize) -> Result<Vec<i64>, Error> {
         let (mut bounds, mut len) = (vec![0; count], 0);
         // SAFETY: the streams are lent, and the room is the vector's.
         check(unsafe {

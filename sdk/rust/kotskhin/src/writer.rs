@@ -27,7 +27,7 @@ pub fn unique_instance() -> io::Result<u128> {
 }
 
 /// The same, of the keys that std draws for its hash maps where the system's device can't be read.
-pub(crate) fn drawn_instance() -> u128 {
+pub(crate) fn draw_instance() -> u128 {
     unique_instance().unwrap_or_else(|_| {
         let half = |bit: u8| u128::from(RandomState::new().hash_one(bit));
         half(0) << 64 | half(1)
@@ -89,7 +89,7 @@ impl Writer {
         attributes: &Attributes,
     ) -> Result<HeldNumber, Error> {
         let mut number = 0;
-        let mut set = attributes.apart()?;
+        let mut set = attributes.lock_copy()?;
         // SAFETY: both handles are ours alone, and they are two.
         check(unsafe { kit_writer_hold(self.0.change(), instrument, set.change(), &mut number) })?;
         Ok(HeldNumber(number))

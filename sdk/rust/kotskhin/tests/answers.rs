@@ -78,13 +78,13 @@ fn said(answer: Vec<u8>) -> Result<Option<NotTaken>, ExportError> {
     assert_eq!(server.asked(), 1);
     match told {
         Ok(()) => Ok(None),
-        Err(why) => why.downcast::<NotTaken>().map(|it| Some(*it)),
+        Err(why) => why.downcast::<NotTaken>().map(|found| Some(*found)),
     }
 }
 
 /// Points, exports and the message that a body says were not taken.
 fn of(body: &[u8]) -> Result<Option<(u64, u64, String)>, ExportError> {
-    Ok(said(with_length(body))?.map(|it| (it.points, it.exports, it.message)))
+    Ok(said(with_length(body))?.map(|found| (found.points, found.exports, found.message)))
 }
 
 /// An answer of OTLP: so many points were rejected, for a reason.
@@ -119,12 +119,12 @@ fn points_that_were_rejected_fail_the_export() -> Done {
     }
     // (one that is as long as is looked at, and one that is longer)
     let whole = [&good[..], b"\x12\xf3\xff\x03", &[b'x'; 0xfff3]].concat();
-    assert_eq!(of(&whole)?.map(|it| it.0), Some(3));
+    assert_eq!(of(&whole)?.map(|found| found.0), Some(3));
     let long = [&good[..], b"\x12\xf4\xff\x03", &[b'x'; 0xfff4]].concat();
     let below = [b"\x0a\x0b\x08", &[255; 9][..], b"\x01"].concat();
     let endless = [b"\x0a\x0c\x08", &[255; 11][..]].concat();
     let mut others = vec![long, below, endless, partial(0, b"a warning")];
-    others.extend(["", "\x0a\x00", "OK\n", "{}", "\x00", "\x08\x05"].map(|it| it.into()));
+    others.extend(["", "\x0a\x00", "OK\n", "{}", "\x00", "\x08\x05"].map(|text| text.into()));
     others.extend([[&good[..], b"\x0a"].concat(), [&good[..], b"\x0b"].concat()]);
     others.extend((1..good.len()).map(|cut| good[..cut].to_vec()));
     for body in others {
@@ -154,13 +154,16 @@ fn exports_that_were_late_fail_the_export() -> Done {
             &[b'x'; 4 * MOST],
         ] {
             let answer = [b"HTTP/1.1 200 OK\r\n", header.as_bytes(), b"\r\n", body].concat();
-            let told = said(answer)?.map_or((0, 0), |it| (it.points, it.exports));
+            let told = said(answer)?.map_or((0, 0), |found| (found.points, found.exports));
             assert_eq!(told, (0, exports), "{header}");
         }
     }
     let both = b"HTTP/1.1 200 OK\r\nKotskhin-Late: 2\r\n\r\n";
     let told = said([&both[..], &partial(3, b"why")].concat())?;
-    assert_eq!(told.map(|it| (it.points, it.exports)), Some((3, 0)));
+    assert_eq!(
+        told.map(|found| (found.points, found.exports)),
+        Some((3, 0))
+    );
     Ok(())
 }
 
@@ -170,7 +173,7 @@ fn bodies_of_each_form_are_read() -> Done {
     let good = partial(3, b"why");
     let told = |head: &str, body: &[u8]| {
         let answer = [b"HTTP/1.1 200 OK\r\n", head.as_bytes(), b"\r\n", body].concat();
-        Ok::<_, ExportError>(said(answer)?.map(|it| it.points))
+        Ok::<_, ExportError>(said(answer)?.map(|found| found.points))
     };
     let chunked = "Transfer-Encoding: chunked\r\n";
     let chunks = |more: &str| {
@@ -233,7 +236,7 @@ fn an_answer_ends_where_it_says() -> Done {
             .with_timeout(timeout)
             .export(&export);
         assert_eq!(told.is_ok(), is_taken);
-        assert!(told.err().is_none_or(|it| it.is::<NotTaken>()));
+        assert!(told.err().is_none_or(|fault| fault.is::<NotTaken>()));
         assert!(began.elapsed() < stays / 2);
     }
     Ok(())
@@ -316,8 +319,8 @@ fn no_other_gateway_is_asked() -> Done {
     let (mut all, export) = (FirstOf::new(gateways), provider().collect()?);
     for turn in 1..3 {
         let fault = all.export(&export).err();
-        let told = fault.and_then(|it| it.downcast::<NotTaken>().ok());
-        assert_eq!(told.map(|it| it.exports), Some(1));
+        let told = fault.and_then(|fault| fault.downcast::<NotTaken>().ok());
+        assert_eq!(told.map(|found| found.exports), Some(1));
         let asked: Vec<_> = servers.iter().map(Server::asked).collect();
         assert_eq!(asked, [1, turn, 0]);
     }
@@ -334,15 +337,15 @@ fn a_reader_tells_what_was_not_taken() -> Done {
     let reader = reader.on_failed(move |why| {
         if let SdkError::Export { error, .. } = why {
             let why = error.downcast_ref::<NotTaken>();
-            told.lock().unwrap().extend(why.map(|it| it.points));
+            told.lock().unwrap().extend(why.map(|found| found.points));
         }
     });
     let builder = SdkMeterProvider::builder().with_reader(reader.build());
     let provider = builder.build();
     let meter = provider.meter("app");
     meter.u64_counter("requests").build().add(7, &[]);
-    let fault = provider.force_flush().err().map(|it| it.to_string());
-    assert!(fault.is_some_and(|it| it.contains("1 points were not taken: LATE")));
+    let fault = provider.force_flush().err().map(|fault| fault.to_string());
+    assert!(fault.is_some_and(|text| text.contains("1 points were not taken: LATE")));
     match provider.shutdown() {
         Err(SdkError::Export { error, unsent }) => {
             assert!(error.is::<NotTaken>());

@@ -107,7 +107,7 @@ fn an_archive_of_an_old_plan_hides_no_live_metric() -> Result<(), Error> {
     gateway.take(&adopted)?;
     let page = gateway.prometheus(None)?;
     assert!(page.contains("# TYPE sales gauge\n"), "{page}");
-    let is_live = |it: &str| it.starts_with("sales{") && it.ends_with(" -3");
+    let is_live = |line: &str| line.starts_with("sales{") && line.ends_with(" -3");
     assert!(page.lines().any(is_live), "{page}");
     assert!(!page.contains("sales_total"), "{page}");
     // (what both adopt keeps its total: of two archives none is taken for the other)

@@ -327,7 +327,7 @@ fn threads_read_one_set_one_plan_and_one_gateway() -> Result<(), Error> {
             .collect();
         threads
             .into_iter()
-            .map(|it| it.join().unwrap())
+            .map(|thread| thread.join().unwrap())
             .collect::<Result<Vec<_>, _>>()
     })?;
     for own in made {
@@ -486,9 +486,9 @@ fn threads_have_seats_at_one_writer() -> Result<(), Error> {
         .map(|mut seat| {
             thread::spawn(move || -> Result<(), Error> {
                 for _ in 0..1000 {
-                    until_free(&mut seat, |it| it.measure_held(set, 1))?;
+                    until_free(&mut seat, |seat| seat.measure_held(set, 1))?;
                 }
-                until_free(&mut seat, |it| it.measure(0, &Attributes::none()?, 1))
+                until_free(&mut seat, |seat| seat.measure(0, &Attributes::none()?, 1))
             })
         })
         .collect();

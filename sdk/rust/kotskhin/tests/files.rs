@@ -22,7 +22,7 @@ impl Folder {
         let there = fs::read_dir(&self.0)?.collect::<Result<Vec<_>, _>>()?;
         let names = there
             .iter()
-            .map(|it| it.file_name().to_string_lossy().into_owned());
+            .map(|entry| entry.file_name().to_string_lossy().into_owned());
         Ok(names.collect())
     }
 }
@@ -48,7 +48,7 @@ fn head_in(path: &Path) -> Result<ExportHead, ExportError> {
 fn mode() -> Result<u32, ExportError> {
     let status = fs::read_to_string("/proc/self/status")?;
     let mut lines = status.lines();
-    let umask = lines.find_map(|it| it.strip_prefix("Umask:"));
+    let umask = lines.find_map(|line| line.strip_prefix("Umask:"));
     Ok(0o666 & !u32::from_str_radix(umask.ok_or("there is no umask")?.trim(), 8)?)
 }
 
@@ -82,7 +82,7 @@ fn two_that_write_one_file_do_not_meet() -> Done {
     let told: Vec<Done> = thread::scope(|scope| {
         let threads: Vec<_> = (0..4).map(|_| scope.spawn(write)).collect();
         let told = threads.into_iter();
-        told.map(|it| it.join().unwrap_or_else(|_| Err("it panicked".into())))
+        told.map(|thread| thread.join().unwrap_or_else(|_| Err("it panicked".into())))
             .collect()
     });
     told.into_iter().collect::<Done>()?;

@@ -34,7 +34,7 @@ fn in_child(call: impl FnOnce() -> Result<(), i32>) -> i32 {
         0 => {
             alarm(SECONDS);
             let called = catch_unwind(AssertUnwindSafe(call));
-            _exit(called.map_or(255, |it| it.err().unwrap_or(0)))
+            _exit(called.map_or(255, |result| result.err().unwrap_or(0)))
         }
         child => {
             let mut status = -1;
@@ -101,8 +101,8 @@ impl Parent {
             .with_reader(reader.build())
             .with_cache(50)
             .with_log(64)
-            .on_refused(move |it: &Refusal| {
-                if it.why == Error::Forked {
+            .on_refused(move |refusal: &Refusal| {
+                if refusal.why == Error::Forked {
                     hook.fetch_add(1, Ordering::Relaxed);
                 }
             })
@@ -162,10 +162,10 @@ fn begin_anew(parent: u128) -> Result<(), i32> {
 fn a_provider_is_refused_in_a_child() {
     let _one = ONE.lock();
     let mut parent = Some(Parent::start());
-    let requests = parent.as_ref().map(|it| it.requests.clone());
+    let requests = parent.as_ref().map(|of| of.requests.clone());
     let depth = parent
         .as_ref()
-        .map(|it| it.provider.meter("app").i64_gauge("depth").build());
+        .map(|of| of.provider.meter("app").i64_gauge("depth").build());
     let (Some(requests), Some(depth)) = (requests, depth) else {
         panic!("there is a parent");
     };
@@ -176,10 +176,10 @@ fn a_provider_is_refused_in_a_child() {
         depth.record(turn, &[]);
     };
     let status = amid(&record, |turn| {
-        let it = parent.take().ok_or(254)?;
-        it.look()?;
-        let (began, instance) = (Instant::now(), it.provider.resource().instance());
-        drop(it);
+        let own = parent.take().ok_or(254)?;
+        own.look()?;
+        let (began, instance) = (Instant::now(), own.provider.resource().instance());
+        drop(own);
         check(11, began.elapsed() < LONG)?;
         begin_anew(instance)?;
         // (one in two ends as programs do)
@@ -230,7 +230,7 @@ fn a_log_from_before_is_of_nobody_in_a_child() {
         provider
             .collect()
             .map_err(|_| Error::Closed)
-            .and_then(|it| total(&it)),
+            .and_then(|rows| total(&rows)),
         Ok(1)
     );
 }

@@ -8,8 +8,8 @@ use std::collections::HashSet;
 /// Kilobytes of memory that the process has.
 fn resident() -> usize {
     let told = std::fs::read_to_string("/proc/self/status").unwrap_or_default();
-    let line = told.lines().find_map(|it| it.strip_prefix("VmRSS:"));
-    line.and_then(|it| it.trim().strip_suffix(" kB")?.parse().ok())
+    let line = told.lines().find_map(|line| line.strip_prefix("VmRSS:"));
+    line.and_then(|size| size.trim().strip_suffix(" kB")?.parse().ok())
         .expect("the system tells it")
 }
 

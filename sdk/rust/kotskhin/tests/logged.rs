@@ -17,7 +17,7 @@ const NEVER: Duration = Duration::from_secs(86_400);
 
 /// The lines that a test logs in a process of its own; nothing in that process, which performs.
 fn logged(test: &str) -> Result<Option<Vec<String>>, Box<dyn AnyError>> {
-    if env::var(PERFORMS).is_ok_and(|it| it == test) {
+    if env::var(PERFORMS).is_ok_and(|name| name == test) {
         return Ok(None);
     }
     let told = Command::new(env::current_exe()?)
@@ -27,7 +27,7 @@ fn logged(test: &str) -> Result<Option<Vec<String>>, Box<dyn AnyError>> {
         .output()?;
     let lines = String::from_utf8(told.stderr)?;
     assert!(told.status.success(), "{lines}");
-    let lines = lines.lines().filter(|it| it.starts_with("kotskhin"));
+    let lines = lines.lines().filter(|line| line.starts_with("kotskhin"));
     Ok(Some(lines.map(str::to_owned).collect()))
 }
 
@@ -177,7 +177,7 @@ fn the_first_failure_of_each_reason_in_a_row_is_a_line() -> Done {
 #[test]
 fn a_closed_standard_error_harms_nobody() -> Done {
     let test = "a_closed_standard_error_harms_nobody";
-    if env::var(PERFORMS).is_ok_and(|it| it == test) {
+    if env::var(PERFORMS).is_ok_and(|name| name == test) {
         // (until nobody reads the standard error any more)
         io::stdin().read_to_string(&mut String::new())?;
         perform_refusals();

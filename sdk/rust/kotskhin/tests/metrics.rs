@@ -124,7 +124,7 @@ fn a_late_instrument_is_told_by_name_and_place() -> Done {
     );
     let place = format!("DeclaredLate: 'late', declared at {}:{line}:", file!());
     assert!(
-        told.shown().iter().all(|it| it.starts_with(&place)),
+        told.shown().iter().all(|line| line.starts_with(&place)),
         "{:?}",
         told.shown()
     );
@@ -211,7 +211,7 @@ fn a_provider_without_recordings_ends() -> Done {
         .build()
         .add(1, &[]);
     assert!(matches!(provider.start(), Err(SdkError::AlreadyShutdown)));
-    let closed: Vec<Error> = told.all().into_iter().map(|it| it.1).collect();
+    let closed: Vec<Error> = told.all().into_iter().map(|refusal| refusal.1).collect();
     assert_eq!(closed, [Error::Closed; 3]);
     Ok(())
 }
@@ -244,8 +244,8 @@ fn nothing_is_lost_between_threads() -> Done {
         let collecting = scope.spawn(|| {
             let mut last = 0;
             for _ in 0..50 {
-                let now = rows(&provider, &of_requests()?).map_err(|it| it.to_string());
-                let now = now.map_or(0, |it| total(&it));
+                let now = rows(&provider, &of_requests()?).map_err(|why| why.to_string());
+                let now = now.map_or(0, |rows| total(&rows));
                 assert!(now >= last, "{now} is less than {last}");
                 last = now;
                 thread::yield_now();
@@ -253,10 +253,10 @@ fn nothing_is_lost_between_threads() -> Done {
             Ok::<i128, Error>(last)
         });
         // (the end of a scope waits for what threads do, and not for what they give up: a thread's log is taken in as it ends)
-        assert!(recording.into_iter().all(|it| it.join().is_ok()));
+        assert!(recording.into_iter().all(|thread| thread.join().is_ok()));
         collecting.join()
     });
-    assert!(collected.is_ok_and(|it| it.is_ok()));
+    assert!(collected.is_ok_and(|result| result.is_ok()));
     let told_rows = rows(&provider, &of_requests()?)?;
     assert_eq!(total(&told_rows), i128::from(THREADS * EACH));
     let limit = Error::CardinalityLimit { limit: 300 };
@@ -291,8 +291,8 @@ fn threads_that_come_and_go_leave_nothing_behind() -> Done {
 /// How much memory the process has, of the tests beside this one too.
 fn megabytes() -> usize {
     let told = std::fs::read_to_string("/proc/self/statm").unwrap_or_default();
-    let pages = told.split(' ').nth(1).and_then(|it| it.parse().ok());
-    pages.map_or(0, |it: usize| it * 4 / 1024)
+    let pages = told.split(' ').nth(1).and_then(|pages| pages.parse().ok());
+    pages.map_or(0, |pages: usize| pages * 4 / 1024)
 }
 
 #[test]
@@ -345,7 +345,7 @@ fn texts_count_by_their_content_and_not_by_their_place() -> Done {
     let told = rows(&provider, &of_requests()?)?;
     let mut totals: Vec<i128> = told
         .iter()
-        .map(|it| total(std::slice::from_ref(it)))
+        .map(|row| total(std::slice::from_ref(row)))
         .collect();
     totals.sort_unstable();
     assert_eq!(totals, [36, 360, 900, 9000, 18000, 36000]);
@@ -367,9 +367,14 @@ fn sets_that_share_what_a_thread_remembers_are_as_exact() -> Done {
     }
     let told = rows(&provider, &of_requests()?)?;
     assert_eq!((total(&told), told.len()), (7 * 1500, 1500));
-    assert!(told.iter().all(|it| total(std::slice::from_ref(it)) == 7));
+    assert!(told.iter().all(|row| total(std::slice::from_ref(row)) == 7));
     let told = rows(&provider, &Ask::sum("app", "orders", "1", true)?)?;
-    assert!(told.len() == 1500 && told.iter().all(|it| total(std::slice::from_ref(it)) == 14));
+    assert!(
+        told.len() == 1500
+            && told
+                .iter()
+                .all(|row| total(std::slice::from_ref(row)) == 14)
+    );
     Ok(())
 }
 
@@ -435,14 +440,14 @@ fn a_gauge_that_threads_set_in_turn_has_the_last_value() -> Done {
     for round in 1..=20 {
         thread::scope(|scope| {
             let threads: Vec<_> = (0..8).map(|_| scope.spawn(set)).collect();
-            assert!(threads.into_iter().all(|it| it.join().is_ok()));
+            assert!(threads.into_iter().all(|thread| thread.join().is_ok()));
         });
         let told = rows(&provider, &Ask::gauge("app", "depth", "")?)?;
         assert_eq!(told.len(), 2);
-        for it in told {
+        for row in told {
             assert!(
-                matches!(it.total, Total::Gauge(Some((_, value))) if value == round * 200),
-                "{it:?}"
+                matches!(row.total, Total::Gauge(Some((_, value))) if value == round * 200),
+                "{row:?}"
             );
         }
     }
@@ -459,12 +464,12 @@ fn a_hook_that_is_refused_itself_is_not_called_for_that() -> Done {
     );
     let (inner, list) = (Arc::clone(&counter), told.hook());
     let provider = SdkMeterProvider::builder()
-        .on_refused(move |it| {
-            list(it);
+        .on_refused(move |refusal| {
+            list(refusal);
             let refused = inner.lock().unwrap_or_else(PoisonError::into_inner).clone();
             refused
                 .into_iter()
-                .for_each(|it: Counter<u64>| it.add(u64::MAX, &[]));
+                .for_each(|counter: Counter<u64>| counter.add(u64::MAX, &[]));
         })
         .build();
     let requests = requests(&provider);
@@ -489,7 +494,7 @@ fn a_hook_may_record_and_may_panic() -> Done {
             let refusals = inner.lock().unwrap_or_else(PoisonError::into_inner).clone();
             refusals
                 .into_iter()
-                .for_each(|it: Counter<u64>| it.add(1, &[]));
+                .for_each(|counter: Counter<u64>| counter.add(1, &[]));
             panic!("a hook's own");
         })
         .build();

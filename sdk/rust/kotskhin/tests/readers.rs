@@ -86,7 +86,7 @@ struct Failed(Arc<Mutex<Vec<String>>>);
 impl Failed {
     fn hook(&self) -> impl Fn(&SdkError) + Send + Sync + 'static {
         let list = self.clone();
-        move |it| list.list().push(it.to_string())
+        move |why| list.list().push(why.to_string())
     }
 
     fn list(&self) -> std::sync::MutexGuard<'_, Vec<String>> {
@@ -102,7 +102,7 @@ impl Failed {
     /// Whether something is told, soon or late, that has these words.
     fn once(&self, words: &str) -> bool {
         let began = Instant::now();
-        let is_told = || self.list().iter().any(|it| it.contains(words));
+        let is_told = || self.list().iter().any(|line| line.contains(words));
         while !is_told() && began.elapsed() < LONG {
             thread::sleep(SHORT);
         }
@@ -229,7 +229,7 @@ fn nothing_is_lost_between_threads_and_reader() -> Done {
         }
     });
     provider.shutdown()?;
-    let totals = heard.iter().filter_map(|it| match it {
+    let totals = heard.iter().filter_map(|heard| match heard {
         Asked::Total(total) => Some(total),
         _ => None,
     });
@@ -261,11 +261,15 @@ fn a_last_export_that_failed_is_handed_back() -> Done {
 #[test]
 fn two_readers_bring_the_same() -> Done {
     let ((one, first), (other, second)) = (telling(0), telling(0));
-    let readers = [one, other].map(|it| PeriodicReader::builder(it).with_interval(NEVER).build());
+    let readers = [one, other].map(|exporter| {
+        PeriodicReader::builder(exporter)
+            .with_interval(NEVER)
+            .build()
+    });
     let provider = readers
         .into_iter()
-        .fold(SdkMeterProvider::builder(), |it, reader| {
-            it.with_reader(reader)
+        .fold(SdkMeterProvider::builder(), |builder, reader| {
+            builder.with_reader(reader)
         })
         .build();
     requests(&provider).add(7, &[]);
@@ -364,7 +368,7 @@ fn a_file_has_the_newest_export() -> Done {
     otlp.export(&provider.collect()?)?;
     assert_eq!(Export::of_otlp(&fs::read(&path)?)?.len(), 1);
     let nowhere = FileExporter::new("/nowhere/at/all");
-    let mut failing = nowhere.with_encoding(|it| Ok(it.encode()?));
+    let mut failing = nowhere.with_encoding(|export| Ok(export.encode()?));
     assert!(failing.export(&provider.collect()?).is_err());
     // (the last export is a file, too)
     provider.shutdown()?;
@@ -386,8 +390,8 @@ fn served(stream: TcpStream, answer: &str) -> io::Result<(Vec<String>, Vec<u8>)>
     }
     let length = head
         .iter()
-        .find_map(|it| it.strip_prefix("Content-Length: "));
-    let length = length.and_then(|it| it.parse().ok()).unwrap_or(0);
+        .find_map(|line| line.strip_prefix("Content-Length: "));
+    let length = length.and_then(|length| length.parse().ok()).unwrap_or(0);
     reader.by_ref().take(length).read_to_end(&mut body)?;
     reader.get_mut().write_all(answer.as_bytes())?;
     Ok((head, body))
@@ -420,7 +424,7 @@ fn http_brings_an_export_and_tells_what_is_answered() -> Done {
     own.export(&export)?;
     let mut faults = Vec::new();
     for _ in 2..answers.len() {
-        faults.extend(exporter.export(&export).err().map(|it| it.to_string()));
+        faults.extend(exporter.export(&export).err().map(|why| why.to_string()));
     }
     assert!(
         faults[0].ends_with("answered 'HTTP/1.1 503 Busy'"),
@@ -470,7 +474,7 @@ fn the_next_exporter_where_one_fails() -> Done {
         assert_eq!(*asked.lock().unwrap(), wanted);
     }
     *down.lock().unwrap() = vec![1, 2, 3];
-    let fault = all.export(&export).err().map(|it| it.to_string());
+    let fault = all.export(&export).err().map(|why| why.to_string());
     assert_eq!(fault, Some("2 is down".to_owned()));
     assert!(FirstOf::new(Vec::new()).export(&export).is_err());
     all.shutdown()?;
@@ -486,8 +490,8 @@ fn http_waits_no_longer_than_it_says() -> Done {
     let mut exporter = HttpExporter::new(&url)?.with_timeout(SHORT * 10);
     let began = Instant::now();
     let fault = exporter.export(&provider.collect()?).err();
-    let waited = fault.and_then(|it| it.downcast::<io::Error>().ok());
-    assert_eq!(waited.map(|it| it.kind()), Some(io::ErrorKind::TimedOut));
+    let waited = fault.and_then(|why| why.downcast::<io::Error>().ok());
+    assert_eq!(waited.map(|why| why.kind()), Some(io::ErrorKind::TimedOut));
     assert!(began.elapsed() < LONG);
     Ok(())
 }
@@ -526,7 +530,7 @@ fn urls_and_headers_that_are_none_are_refused() -> Done {
     assert!(good()?.with_header("", "b").is_err());
     assert!(
         good()?
-            .with_encoding("a\nb", |it| Ok(it.encode()?))
+            .with_encoding("a\nb", |export| Ok(export.encode()?))
             .is_err()
     );
     Ok(())

@@ -26,9 +26,9 @@ fn one_that_the_plan_refuses_leaves_the_others() -> Done {
             .build(),
     ];
     let requests = requests(&provider);
-    refused.iter().for_each(|it| it.add(1, &[]));
+    refused.iter().for_each(|counter| counter.add(1, &[]));
     requests.add(7, &[]);
-    let whys: Vec<Error> = told.all().into_iter().map(|it| it.1).collect();
+    let whys: Vec<Error> = told.all().into_iter().map(|refusal| refusal.1).collect();
     assert_eq!(
         whys[..4],
         [
@@ -54,17 +54,20 @@ fn one_that_the_plan_refuses_leaves_the_others() -> Done {
 #[test]
 fn views_make_streams() -> Done {
     let provider = SdkMeterProvider::builder()
-        .with_view(|it| {
-            if it.name() != "requests" || it.scope() != "app" || it.unit() != "1" {
+        .with_view(|instrument| {
+            if instrument.name() != "requests"
+                || instrument.scope() != "app"
+                || instrument.unit() != "1"
+            {
                 return None;
             }
             let keys = [Key::from_static_str("route")];
             let by_route = Stream::builder().with_name("by_route");
             by_route.with_allowed_attribute_keys(keys).build().ok()
         })
-        .with_view(|it| {
+        .with_view(|instrument| {
             let drop = Stream::builder().with_aggregation(Aggregation::Drop);
-            (it.name() == "noise").then(|| drop.build().ok())?
+            (instrument.name() == "noise").then(|| drop.build().ok())?
         })
         .build();
     let meter = provider.meter("app");
@@ -122,9 +125,10 @@ fn two_that_would_feed_one_stream_are_told_by_name() -> Done {
     let told = Told::default();
     let provider = SdkMeterProvider::builder()
         .on_refused(told.hook())
-        .with_view(|it| {
+        .with_view(|instrument| {
             let renamed = Stream::builder().with_name("sales");
-            it.name()
+            instrument
+                .name()
                 .starts_with("sold.")
                 .then(|| renamed.build().ok())?
         })
@@ -164,9 +168,9 @@ fn values(provider: &SdkMeterProvider, ask: &Ask) -> Result<(u128, i128), Box<dy
 #[test]
 fn one_name_in_two_units_is_two_instruments() -> Done {
     let provider = SdkMeterProvider::builder()
-        .with_view(|it| {
+        .with_view(|instrument| {
             let by_route = Stream::builder().with_allowed_attribute_keys([]);
-            (it.unit() == "By").then(|| by_route.build().ok())?
+            (instrument.unit() == "By").then(|| by_route.build().ok())?
         })
         .build();
     let meter = provider.meter("app");
@@ -175,8 +179,8 @@ fn one_name_in_two_units_is_two_instruments() -> Done {
     let viewed = size("Size", "By").with_boundaries(vec![2]).build();
     let plain = size("SIZE", "").build();
     let other = meter.u64_counter("size").with_unit("By").build();
-    for (number, it) in [&advised, &viewed, &plain].into_iter().enumerate() {
-        it.record(number as u64 + 1, &[]);
+    for (number, histogram) in [&advised, &viewed, &plain].into_iter().enumerate() {
+        histogram.record(number as u64 + 1, &[]);
     }
     other.add(7, &[KeyValue::new("route", "/")]);
     let defaults = default_bounds();
@@ -208,8 +212,10 @@ fn names_in_the_plan_are_names_of_no_instrument() -> Done {
         let made = meter.u64_histogram(name).with_boundaries(vec![5]);
         made.with_unit("1").build()
     });
-    plain.iter().for_each(|it| it.record(3, &[]));
-    advised.iter().for_each(|it| it.record(10, &[]));
+    plain.iter().for_each(|histogram| histogram.record(3, &[]));
+    advised
+        .iter()
+        .for_each(|histogram| histogram.record(10, &[]));
     for name in ["i.0", "i.1", "i..2", "i...3"] {
         let ask = Ask::histogram("app", name, "", &default_bounds())?;
         assert_eq!(values(&provider, &ask)?, (1, 3), "{name}");
@@ -219,7 +225,7 @@ fn names_in_the_plan_are_names_of_no_instrument() -> Done {
         assert_eq!(values(&provider, &ask)?, (1, 10), "{name}");
     }
     assert_eq!(provider.collect()?.head()?.points, 7);
-    let whys: Vec<Error> = told.all().into_iter().map(|it| it.1).collect();
+    let whys: Vec<Error> = told.all().into_iter().map(|refusal| refusal.1).collect();
     assert_eq!(whys, [Error::BadName { instrument: 6 }; 4]);
     Ok(())
 }
@@ -240,7 +246,10 @@ fn a_limit_is_told_once_of_each_stream() -> Done {
     let told_so_far = || -> Result<Vec<String>, SdkError> {
         provider.collect()?;
         let list = std::mem::take(&mut *told.0.lock().unwrap_or_else(PoisonError::into_inner));
-        Ok(list.into_iter().map(|it| it.to_string()).collect())
+        Ok(list
+            .into_iter()
+            .map(|refusal| refusal.to_string())
+            .collect())
     };
     let line = |name: &str| {
         format!(
@@ -274,8 +283,8 @@ fn a_view_that_does_not_fit_is_told_and_passed_over() -> Done {
     let (last, renamed) = (last.build()?, Stream::builder().with_name("other").build()?);
     let provider = SdkMeterProvider::builder()
         .on_refused(told.hook())
-        .with_view(move |it| (it.name() == "twice").then(|| renamed.clone()))
-        .with_view(move |it| (it.name() != "fine").then(|| last.clone()))
+        .with_view(move |instrument| (instrument.name() == "twice").then(|| renamed.clone()))
+        .with_view(move |instrument| (instrument.name() != "fine").then(|| last.clone()))
         .build();
     let line = line!() - 2;
     let meter = provider.meter("app");
@@ -284,8 +293,8 @@ fn a_view_that_does_not_fit_is_told_and_passed_over() -> Done {
     let twice = meter.u64_counter("twice").build();
     let size = meter.u64_histogram("size").with_boundaries(vec![1]).build();
     let depth = meter.i64_gauge("depth").build();
-    for it in [&fine, &misfit, &twice] {
-        it.add(7, &[]);
+    for counter in [&fine, &misfit, &twice] {
+        counter.add(7, &[]);
     }
     size.record(2, &[]);
     depth.record(-1, &[]);
@@ -310,7 +319,7 @@ fn a_view_that_does_not_fit_is_told_and_passed_over() -> Done {
     let whys: Vec<u64> = told
         .all()
         .into_iter()
-        .map(|it| it.1.places()[0].1)
+        .map(|refusal| refusal.1.places()[0].1)
         .collect();
     assert_eq!(whys, [1, 2, 3]);
     for name in ["fine", "misfit", "other"] {

@@ -71,7 +71,7 @@ struct Field<'a> {
 }
 
 /// A number of 1 to 10 bytes, and what stands behind it.
-fn number(from: &[u8]) -> Option<(u64, &[u8])> {
+fn read_number(from: &[u8]) -> Option<(u64, &[u8])> {
     let mut value = 0;
     for (turn, byte) in from.iter().take(10).enumerate() {
         value |= u64::from(byte & 127) << (7 * turn);
@@ -83,11 +83,11 @@ fn number(from: &[u8]) -> Option<(u64, &[u8])> {
 }
 
 /// The field that bytes begin with, and what stands behind it.
-fn first(from: &[u8]) -> Option<(Field<'_>, &[u8])> {
-    let (tag, rest) = number(from)?;
+fn read_field(from: &[u8]) -> Option<(Field<'_>, &[u8])> {
+    let (tag, rest) = read_number(from)?;
     let (value, size, rest) = match tag & 7 {
-        NUMBER => number(rest).map(|(value, rest)| (value, 0, rest))?,
-        BYTES => number(rest).map(|(size, rest)| (0, size, rest))?,
+        NUMBER => read_number(rest).map(|(value, rest)| (value, 0, rest))?,
+        BYTES => read_number(rest).map(|(size, rest)| (0, size, rest))?,
         1 => (0, 8, rest),
         5 => (0, 4, rest),
         _ => return None,
@@ -109,24 +109,26 @@ fn points_not_taken(mut answer: &[u8]) -> Option<NotTaken> {
     if answer.len() > MOST {
         return None;
     }
-    let mut says = NotTaken::default();
+    let mut not_taken = NotTaken::default();
     while !answer.is_empty() {
-        let (outer, rest) = first(answer)?;
+        let (outer, rest) = read_field(answer)?;
         answer = rest;
         let mut partial = match (outer.number, outer.wire) {
             (1, BYTES) => outer.bytes,
             _ => continue,
         };
         while !partial.is_empty() {
-            let (field, rest) = first(partial)?;
+            let (field, rest) = read_field(partial)?;
             partial = rest;
             match (field.number, field.wire) {
-                (1, NUMBER) => says.points = field.value,
-                (2, BYTES) => says.message = String::from_utf8_lossy(field.bytes).into_owned(),
+                (1, NUMBER) => not_taken.points = field.value,
+                (2, BYTES) => not_taken.message = String::from_utf8_lossy(field.bytes).into_owned(),
                 _ => (),
             }
         }
     }
     // (what is above is a number below 0)
-    (1..1 << 63).contains(&says.points).then_some(says)
+    (1..1 << 63)
+        .contains(&not_taken.points)
+        .then_some(not_taken)
 }

@@ -2,18 +2,18 @@
 use super::answers::MOST;
 
 /// Where some bytes stand first.
-fn place(bytes: &[u8], of: &[u8]) -> Option<usize> {
+fn find(bytes: &[u8], of: &[u8]) -> Option<usize> {
     bytes.windows(of.len()).position(|window| window == of)
 }
 
 /// The head of an answer in small letters, and what stands behind it.
-fn parts(answer: &[u8]) -> Option<(String, &[u8])> {
-    let end = place(answer, b"\r\n\r\n")?;
+fn split_head(answer: &[u8]) -> Option<(String, &[u8])> {
+    let end = find(answer, b"\r\n\r\n")?;
     let head = String::from_utf8_lossy(&answer[..end]).to_ascii_lowercase();
     Some((head, &answer[end + 4..]))
 }
 
-fn header<'a>(head: &'a str, name: &str) -> Option<&'a str> {
+fn find_header<'a>(head: &'a str, name: &str) -> Option<&'a str> {
     let mut pairs = head.lines().skip(1).filter_map(|line| line.split_once(':'));
     pairs
         .find(|(key, _)| *key == name)
@@ -21,21 +21,21 @@ fn header<'a>(head: &'a str, name: &str) -> Option<&'a str> {
 }
 
 /// How many exports a gateway says were late: a whole number of at most 19 digits, and anything else says nothing.
-pub(super) fn late_of(answer: &[u8]) -> Option<u64> {
-    let (head, _) = parts(answer)?;
-    let late = header(&head, "kotskhin-late")?;
+pub(super) fn parse_late(answer: &[u8]) -> Option<u64> {
+    let (head, _) = split_head(answer)?;
+    let late = find_header(&head, "kotskhin-late")?;
     let is_number = late.len() <= 19 && late.bytes().all(|byte| byte.is_ascii_digit());
     late.parse().ok().filter(|_| is_number)
 }
 
 /// The body of an answer, as it came so far: nothing while more of it is to come. One that is longer than is looked at, or that is none, is
 /// empty.
-pub(super) fn body_of(answer: &[u8], is_over: bool) -> Option<Vec<u8>> {
-    let (head, rest) = parts(answer)?;
-    if header(&head, "transfer-encoding").is_some_and(|coding| coding.ends_with("chunked")) {
+pub(super) fn parse_body(answer: &[u8], is_over: bool) -> Option<Vec<u8>> {
+    let (head, rest) = split_head(answer)?;
+    if find_header(&head, "transfer-encoding").is_some_and(|coding| coding.ends_with("chunked")) {
         return unchunk(rest);
     }
-    match header(&head, "content-length").and_then(|length| length.parse::<usize>().ok()) {
+    match find_header(&head, "content-length").and_then(|length| length.parse::<usize>().ok()) {
         Some(length) if length > MOST => Some(Vec::new()),
         Some(length) => rest.get(..length).map(<[u8]>::to_vec),
         // (an answer that has none does not say its length)
@@ -48,13 +48,13 @@ pub(super) fn body_of(answer: &[u8], is_over: bool) -> Option<Vec<u8>> {
 
 /// The first line of a body, of so many bytes at most, as it came so far, and whether it is whole. Of a body by chunks it is that of the
 /// first one.
-pub(super) fn beginning_of(answer: &[u8], most: usize) -> (&[u8], bool) {
-    let Some((head, mut rest)) = parts(answer) else {
+pub(super) fn parse_first_line(answer: &[u8], most: usize) -> (&[u8], bool) {
+    let Some((head, mut rest)) = split_head(answer) else {
         return (&[], false);
     };
-    let mut length = header(&head, "content-length").and_then(|length| length.parse().ok());
-    if header(&head, "transfer-encoding").is_some_and(|coding| coding.ends_with("chunked")) {
-        let Some(end) = place(rest, b"\r\n") else {
+    let mut length = find_header(&head, "content-length").and_then(|length| length.parse().ok());
+    if find_header(&head, "transfer-encoding").is_some_and(|coding| coding.ends_with("chunked")) {
+        let Some(end) = find(rest, b"\r\n") else {
             return (&[], false);
         };
         length = usize::from_str_radix(&String::from_utf8_lossy(&rest[..end]), 16).ok();
@@ -70,7 +70,7 @@ pub(super) fn beginning_of(answer: &[u8], most: usize) -> (&[u8], bool) {
 fn unchunk(mut rest: &[u8]) -> Option<Vec<u8>> {
     let mut body = Vec::new();
     loop {
-        let end = place(rest, b"\r\n")?;
+        let end = find(rest, b"\r\n")?;
         let line = String::from_utf8_lossy(&rest[..end]);
         let size = line.split(';').next().unwrap_or_default().trim();
         match usize::from_str_radix(size, 16) {

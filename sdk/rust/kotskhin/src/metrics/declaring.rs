@@ -40,7 +40,7 @@ pub(super) struct Declaring {
 }
 
 impl Declaring {
-    pub fn number_of(&self, instrument: &Instrument) -> Option<usize> {
+    pub fn find(&self, instrument: &Instrument) -> Option<usize> {
         self.instruments.iter().position(|declared| {
             let other = &declared.instrument;
             other.is_named_as(instrument) && other.unit == instrument.unit
@@ -48,7 +48,7 @@ impl Declaring {
     }
 
     /// The name of an instrument.
-    pub fn name_of(&self, number: u64) -> Option<String> {
+    pub fn instrument_name(&self, number: u64) -> Option<String> {
         let declared = self.instruments.get(usize::try_from(number).ok()?)?;
         Some(declared.instrument.name.clone())
     }
@@ -63,25 +63,25 @@ impl Declaring {
     ) -> Result<usize, Error> {
         let number = self.instruments.len();
         let instrument = request.instrument;
-        plan_alone(&instrument, None).map_err(|why| at_instrument(why, number as u64))?;
+        plan_alone(&instrument, None).map_err(|why| place_at_instrument(why, number as u64))?;
         let mut streams = Vec::new();
         for viewed in request.viewed {
             match plan_alone(&instrument, Some(&viewed.stream)) {
                 Err(why) => passed_over.push(PassedOver {
                     given: viewed.given,
-                    why: at_view(why, number as u64, viewed.number)?,
+                    why: place_at_view(why, number as u64, viewed.number)?,
                 }),
                 Ok(()) => streams.push(viewed.stream),
             }
         }
         if streams.is_empty() {
-            streams.extend(request.boundaries.map(Stream::of_bounds));
+            streams.extend(request.boundaries.map(Stream::from_bounds));
         }
         self.instruments.push(Declared {
             instrument,
             streams,
         });
-        match self.plan_of_all(limit) {
+        match self.plan_all(limit) {
             Ok(plan) => self.plan = Some(plan),
             Err(why) => {
                 self.instruments.pop();
@@ -91,9 +91,9 @@ impl Declaring {
         Ok(number)
     }
 
-    fn plan_of_all(&self, limit: u64) -> Result<Plan, Error> {
+    fn plan_all(&self, limit: u64) -> Result<Plan, Error> {
         let (mut instruments, mut views) = (Instruments::new(), Views::new());
-        let front = self.front_of_own_names();
+        let front = self.pick_front();
         for (number, declared) in self.instruments.iter().enumerate() {
             let one = &declared.instrument;
             let own = format!("{front}{number}");
@@ -103,7 +103,7 @@ impl Declaring {
             };
             instruments.add(&one.scope, planned, &one.unit, one.kind)?;
             for stream in &declared.streams {
-                views.add(&stream.view_of(one, planned)?)?;
+                views.add(&stream.to_view(one, planned)?)?;
             }
         }
         Plan::with_views(&instruments, &views, limit)
@@ -111,7 +111,7 @@ impl Declaring {
 
     /// What no instrument's name begins with. A view of the kit is of a name, and not of a unit: so in the plan an instrument with streams
     /// of its own has a name that no other has, which is this and its number, and its streams get its real name back.
-    fn front_of_own_names(&self) -> String {
+    fn pick_front(&self) -> String {
         let is_taken = |front: &str| {
             let names = self.instruments.iter().map(|one| &one.instrument.name);
             let mut fronts = names.filter_map(|name| name.get(..front.len()));
@@ -131,13 +131,13 @@ pub(super) fn plan_alone(instrument: &Instrument, stream: Option<&Stream>) -> Re
     let name = &instrument.name;
     instruments.add(&instrument.scope, name, &instrument.unit, instrument.kind)?;
     if let Some(stream) = stream {
-        views.add(&stream.view_of(instrument, name)?)?;
+        views.add(&stream.to_view(instrument, name)?)?;
     }
     Plan::with_views(&instruments, &views, 1).map(drop)
 }
 
 /// A refusal of an instrument alone, by its number.
-fn at_instrument(why: Error, instrument: u64) -> Error {
+fn place_at_instrument(why: Error, instrument: u64) -> Error {
     match why {
         Error::BadName { .. } => Error::BadName { instrument },
         Error::BadUnit { .. } => Error::BadUnit { instrument },
@@ -147,7 +147,7 @@ fn at_instrument(why: Error, instrument: u64) -> Error {
 }
 
 /// A refusal that is a view's alone, by their numbers. What is refused otherwise is refused.
-fn at_view(why: Error, instrument: u64, view: u64) -> Result<Error, Error> {
+fn place_at_view(why: Error, instrument: u64, view: u64) -> Result<Error, Error> {
     match why {
         Error::BadBounds { .. } => Ok(Error::BadBounds { view }),
         Error::BadRename { .. } => Ok(Error::BadRename { view }),

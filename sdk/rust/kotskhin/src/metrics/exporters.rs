@@ -1,11 +1,11 @@
 //! Exporters: tables, a file, and HTTP.
 use super::answers::{MOST, NotTaken, not_taken};
-use super::bodies::{beginning_of, body_of, late_of};
+use super::bodies::{parse_body, parse_first_line, parse_late};
 use super::files;
 use crate::ask::Ask;
 use crate::export::Export;
 use crate::gateway::Gateway;
-use crate::logging::without_controls;
+use crate::logging::strip_controls;
 use crate::streams::Stream;
 use std::fmt;
 use std::io::{self, ErrorKind, Read, Write};
@@ -259,7 +259,7 @@ impl HttpExporter {
         Ok(self)
     }
 
-    fn head(&self, len: usize) -> String {
+    fn write_head(&self, len: usize) -> String {
         let mut head = format!(
             "POST {} HTTP/1.1\r\nHost: {}:{}\r\nContent-Type: {}\r\nContent-Length: {len}\r\nConnection: close\r\n",
             self.path, self.host, self.port, self.content_type
@@ -278,7 +278,7 @@ impl HttpExporter {
         let mut fault = invalid(format!("'{}' has no address", self.host));
         let host = self.host.trim_matches(['[', ']']);
         for address in (host, self.port).to_socket_addrs()? {
-            match TcpStream::connect_timeout(&address, left(until)?) {
+            match TcpStream::connect_timeout(&address, time_left(until)?) {
                 Ok(stream) => return Ok(stream),
                 Err(why) => fault = why,
             }
@@ -290,13 +290,13 @@ impl HttpExporter {
     fn post(&self, body: &[u8]) -> io::Result<Answer> {
         let until = Instant::now() + self.timeout.min(Duration::from_secs(1 << 30));
         let mut stream = self.connect(until)?;
-        let head = self.head(body.len());
+        let head = self.write_head(body.len());
         for part in [head.as_bytes(), body] {
             send_all(&mut stream, part, until)?;
         }
         let mut received = Vec::new();
         while !received.contains(&b'\n') && received.len() < LINE {
-            if !more(&mut stream, &mut received, until)? {
+            if !read_more(&mut stream, &mut received, until)? {
                 return Err(ErrorKind::UnexpectedEof.into());
             }
         }
@@ -314,7 +314,7 @@ impl HttpExporter {
         Ok(Answer {
             line,
             is_good,
-            late: late_of(&received).unwrap_or(0),
+            late: parse_late(&received).unwrap_or(0),
             body,
         })
     }
@@ -330,9 +330,9 @@ struct Answer {
 
 impl Answer {
     /// What it says, where it is none of 2xx.
-    fn refusal(&self) -> String {
-        let line = without_controls(&self.line);
-        match without_controls(&String::from_utf8_lossy(&self.body)).trim() {
+    fn describe(&self) -> String {
+        let line = strip_controls(&self.line);
+        match strip_controls(&String::from_utf8_lossy(&self.body)).trim() {
             "" => format!("answered '{line}'"),
             why => format!("answered '{line}': {why}"),
         }
@@ -342,11 +342,11 @@ impl Answer {
 /// The rest of an answer, up to the end of its body. (What was sent is taken: a body that does not come whole says nothing.)
 fn read_body(stream: &mut TcpStream, received: &mut Vec<u8>, until: Instant) -> Vec<u8> {
     while received.len() <= ANSWER {
-        if let Some(body) = body_of(received, false) {
+        if let Some(body) = parse_body(received, false) {
             return body;
         }
-        if !matches!(more(stream, received, until), Ok(true)) {
-            return body_of(received, true).unwrap_or_default();
+        if !matches!(read_more(stream, received, until), Ok(true)) {
+            return parse_body(received, true).unwrap_or_default();
         }
     }
     Vec::new()
@@ -356,21 +356,21 @@ fn read_body(stream: &mut TcpStream, received: &mut Vec<u8>, until: Instant) -> 
 fn read_line(stream: &mut TcpStream, received: &mut Vec<u8>, until: Instant) -> Vec<u8> {
     let until = until.min(Instant::now() + REFUSAL);
     loop {
-        let (line, is_whole) = beginning_of(received, LINE);
+        let (line, is_whole) = parse_first_line(received, LINE);
         if is_whole || received.len() > ANSWER {
             return line.to_vec();
         }
-        if !matches!(more(stream, received, until), Ok(true)) {
-            return beginning_of(received, LINE).0.to_vec();
+        if !matches!(read_more(stream, received, until), Ok(true)) {
+            return parse_first_line(received, LINE).0.to_vec();
         }
     }
 }
 
 /// Reads on, and tells whether anything came before the end.
-fn more(stream: &mut TcpStream, received: &mut Vec<u8>, until: Instant) -> io::Result<bool> {
+fn read_more(stream: &mut TcpStream, received: &mut Vec<u8>, until: Instant) -> io::Result<bool> {
     let mut piece = [0; 4096];
     loop {
-        stream.set_read_timeout(Some(left(until)?))?;
+        stream.set_read_timeout(Some(time_left(until)?))?;
         match stream.read(&mut piece) {
             Ok(many) => {
                 received.extend_from_slice(&piece[..many]);
@@ -384,7 +384,7 @@ fn more(stream: &mut TcpStream, received: &mut Vec<u8>, until: Instant) -> io::R
 
 fn send_all(stream: &mut TcpStream, mut bytes: &[u8], until: Instant) -> io::Result<()> {
     while !bytes.is_empty() {
-        stream.set_write_timeout(Some(left(until)?))?;
+        stream.set_write_timeout(Some(time_left(until)?))?;
         match stream.write(bytes) {
             Ok(0) => return Err(ErrorKind::WriteZero.into()),
             Ok(many) => bytes = &bytes[many..],
@@ -396,7 +396,7 @@ fn send_all(stream: &mut TcpStream, mut bytes: &[u8], until: Instant) -> io::Res
 }
 
 /// How long there is still. Refused where there is nothing left.
-fn left(until: Instant) -> io::Result<Duration> {
+fn time_left(until: Instant) -> io::Result<Duration> {
     let left = until.saturating_duration_since(Instant::now());
     match left.is_zero() {
         true => Err(ErrorKind::TimedOut.into()),
@@ -417,7 +417,7 @@ impl PushExporter for HttpExporter {
         let body = (self.encode)(export)?;
         let answer = self.post(&body)?;
         if !answer.is_good {
-            return Err(format!("{}:{} {}", self.host, self.port, answer.refusal()).into());
+            return Err(format!("{}:{} {}", self.host, self.port, answer.describe()).into());
         }
         match not_taken(&answer.body, answer.late) {
             Some(why) => Err(why.into()),

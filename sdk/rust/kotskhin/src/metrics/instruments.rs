@@ -38,7 +38,7 @@ impl Part {
 
     /// A value as the kit's whole numbers have it: one that is none is refused.
     #[inline]
-    fn whole(&self, value: u64) -> Option<i64> {
+    fn check_whole(&self, value: u64) -> Option<i64> {
         let whole = i64::try_from(value).map_err(|_| Error::ValueTooWide { value });
         whole.map_err(|why| self.tell(Err(why))).ok()
     }
@@ -66,12 +66,12 @@ impl Part {
 
 mod sealed {
     /// What is made of an instrument that was declared.
-    pub trait Made {
-        fn of(part: super::Part) -> Self;
+    pub trait FromPart {
+        fn from_part(part: super::Part) -> Self;
     }
 }
 
-use sealed::Made;
+use sealed::FromPart;
 
 macro_rules! instrument {
     ($(#[$page:meta])* $name:ident) => {
@@ -79,8 +79,8 @@ macro_rules! instrument {
         #[derive(Clone)]
         pub struct $name<T>(Part, PhantomData<fn(T)>);
 
-        impl<T> Made for $name<T> {
-            fn of(part: Part) -> Self {
+        impl<T> FromPart for $name<T> {
+            fn from_part(part: Part) -> Self {
                 $name(part, PhantomData)
             }
         }
@@ -115,7 +115,7 @@ impl Counter<u64> {
     /// Adds a value. One above 2^63 - 1 is refused.
     #[inline]
     pub fn add(&self, value: u64, attributes: &[KeyValue]) {
-        if let Some(value) = self.0.whole(value) {
+        if let Some(value) = self.0.check_whole(value) {
             self.0.record(value, attributes);
         }
     }
@@ -141,7 +141,7 @@ impl Gauge<u64> {
     /// Records a value. One above 2^63 - 1 is refused.
     #[inline]
     pub fn record(&self, value: u64, attributes: &[KeyValue]) {
-        if let Some(value) = self.0.whole(value) {
+        if let Some(value) = self.0.check_whole(value) {
             self.0.record_last(value, attributes);
         }
     }
@@ -151,7 +151,7 @@ impl Histogram<u64> {
     /// Records a value. One above 2^63 - 1 is refused.
     #[inline]
     pub fn record(&self, value: u64, attributes: &[KeyValue]) {
-        if let Some(value) = self.0.whole(value) {
+        if let Some(value) = self.0.check_whole(value) {
             self.0.record(value, attributes);
         }
     }
@@ -201,7 +201,7 @@ impl Meter {
         }
     }
 
-    fn declare<T: Made>(
+    fn declare<T: FromPart>(
         &self,
         instrument: Instrument,
         boundaries: Option<Vec<i64>>,
@@ -225,11 +225,11 @@ impl Meter {
         }
         if let Err(why) = number {
             part.refuse(Refusal {
-                other: shared.other_of(why),
+                other: shared.find_other(why),
                 ..Refusal::new(name, Refused::Instrument, why)
             });
         }
-        T::of(part)
+        T::from_part(part)
     }
 }
 
@@ -268,7 +268,7 @@ impl<'a, T> InstrumentBuilder<'a, T> {
 }
 
 #[allow(private_bounds)]
-impl<T: Made> InstrumentBuilder<'_, T> {
+impl<T: FromPart> InstrumentBuilder<'_, T> {
     /// The instrument: that which was declared before, where scope, name, unit and kind are the same. One that is refused is told to the
     /// provider's hook, and records nothing: where the provider has started (`DeclaredLate`), or the plan with it is refused.
     #[track_caller]

@@ -30,7 +30,11 @@ impl Limits {
 
     /// The numbers of the streams that have more sets than the limit, each once. A stream is looked at only where so many points have
     /// come that it may have: points never go.
-    pub fn reached(&mut self, streams: &Streams, export: &Export) -> Result<Vec<usize>, Error> {
+    pub fn find_reached(
+        &mut self,
+        streams: &Streams,
+        export: &Export,
+    ) -> Result<Vec<usize>, Error> {
         let (limit, points) = (self.limit, export.head()?.points as u64);
         let may_be = |stream: &Seen| {
             let come = points.saturating_sub(stream.points);

@@ -20,7 +20,7 @@ impl Numbers {
         self.0.get(instrument)?.get(attributes).copied()
     }
 
-    fn entry(
+    fn find_entry(
         &self,
         instrument: usize,
         attributes: &[KeyValue],
@@ -70,7 +70,7 @@ impl Cache {
         number: HeldNumber,
     ) -> Arc<[KeyValue]> {
         // (another thread may have been first)
-        if let Some((key, _)) = self.numbers.entry(instrument, attributes) {
+        if let Some((key, _)) = self.numbers.find_entry(instrument, attributes) {
             return key;
         }
         let key: Arc<[KeyValue]> = attributes.into();
@@ -94,7 +94,7 @@ struct Known {
 
 impl Known {
     #[inline]
-    fn is(&self, instrument: usize, attributes: &[KeyValue]) -> bool {
+    fn is_of(&self, instrument: usize, attributes: &[KeyValue]) -> bool {
         let mut pairs = self.attributes.iter().zip(attributes);
         self.instrument == instrument
             && self.attributes.len() == attributes.len()
@@ -112,7 +112,7 @@ impl Places {
 
     /// The room of a pair. (keys are most often those of others at its instrument, so they are left out)
     #[inline]
-    fn room_of(instrument: usize, attributes: &[KeyValue]) -> usize {
+    fn pick_room(instrument: usize, attributes: &[KeyValue]) -> usize {
         let mixed = attributes.iter().fold(instrument as u64, |mixed, pair| {
             (mixed.rotate_left(26) ^ pair.word()).wrapping_mul(MIXER)
         });
@@ -122,7 +122,7 @@ impl Places {
     #[inline]
     fn find(&self, room: usize, instrument: usize, attributes: &[KeyValue]) -> Option<HeldNumber> {
         let known = self.0.get(room)?.as_ref()?;
-        known.is(instrument, attributes).then_some(known.number)
+        known.is_of(instrument, attributes).then_some(known.number)
     }
 
     /// Keeps a pair in its room, unless another has it that is found there often enough.
@@ -187,10 +187,10 @@ impl Log {
         if self.is_closed {
             return Err(Error::Closed);
         }
-        let room = Places::room_of(instrument, attributes);
+        let room = Places::pick_room(instrument, attributes);
         match self.places.find(room, instrument, attributes) {
             Some(number) => self.recorder.measure_held(number, value),
-            None => match self.way_read(at, room, instrument, attributes)? {
+            None => match self.read_way(at, room, instrument, attributes)? {
                 Way::Number(number) => self.recorder.measure_held(number, value),
                 Way::Set(set) => self.recorder.measure(instrument, &set, value),
             },
@@ -198,7 +198,7 @@ impl Log {
     }
 
     /// The way of a recording that is not noted here. Refused: `Closed`, `EmptyKey`, `NoMemory`.
-    pub fn way(
+    pub fn find_way(
         &mut self,
         at: (&Mutex<Core>, &RwLock<Cache>),
         instrument: usize,
@@ -207,16 +207,16 @@ impl Log {
         if self.is_closed {
             return Err(Error::Closed);
         }
-        let room = Places::room_of(instrument, attributes);
+        let room = Places::pick_room(instrument, attributes);
         match self.places.find(room, instrument, attributes) {
             Some(number) => Ok(Way::Number(number)),
-            None => self.way_read(at, room, instrument, attributes),
+            None => self.read_way(at, room, instrument, attributes),
         }
     }
 
     /// The way of a recording whose texts have to be read.
     #[inline(never)]
-    fn way_read(
+    fn read_way(
         &mut self,
         at: (&Mutex<Core>, &RwLock<Cache>),
         room: usize,
@@ -225,7 +225,7 @@ impl Log {
     ) -> Result<Way, Error> {
         let way = match self.numbers.find(instrument, attributes) {
             Some(number) => Way::Number(number),
-            None => self.new_way(at, instrument, attributes)?,
+            None => self.make_way(at, instrument, attributes)?,
         };
         if let Way::Number(number) = way {
             self.places.keep(room, instrument, attributes, number);
@@ -235,14 +235,17 @@ impl Log {
 
     /// Of a pair that this thread has not seen. A number is looked for in the cache, or made where it has room: no lock is waited for, since
     /// a recording is not to wait, and in a child of a fork a lock may never be given back. Else it goes by the set itself.
-    fn new_way(
+    fn make_way(
         &mut self,
         (core, cache): (&Mutex<Core>, &RwLock<Cache>),
         instrument: usize,
         attributes: &[KeyValue],
     ) -> Result<Way, Error> {
-        let (known, is_full) = match free(cache.try_read()) {
-            Some(cache) => (cache.numbers.entry(instrument, attributes), cache.is_full()),
+        let (known, is_full) = match take_free(cache.try_read()) {
+            Some(cache) => (
+                cache.numbers.find_entry(instrument, attributes),
+                cache.is_full(),
+            ),
             None => (None, true),
         };
         if let Some((key, number)) = known {
@@ -253,11 +256,11 @@ impl Log {
         if is_full {
             return Ok(Way::Set(set));
         }
-        let Some(mut core) = free(core.try_lock()) else {
+        let Some(mut core) = take_free(core.try_lock()) else {
             return Ok(Way::Set(set));
         };
         // (others may have been first: who has the writer alone changes the cache)
-        let Some(mut cache) = free(cache.try_write()).filter(|cache| !cache.is_full()) else {
+        let Some(mut cache) = take_free(cache.try_write()).filter(|cache| !cache.is_full()) else {
             return Ok(Way::Set(set));
         };
         let number = core.writer.hold(instrument, &set)?;
@@ -273,7 +276,7 @@ impl Log {
 }
 
 /// What a lock is of, where nobody else has it.
-fn free<T>(tried: Result<T, TryLockError<T>>) -> Option<T> {
+fn take_free<T>(tried: Result<T, TryLockError<T>>) -> Option<T> {
     match tried {
         Ok(free) => Some(free),
         Err(TryLockError::Poisoned(free)) => Some(free.into_inner()),
@@ -316,7 +319,7 @@ pub(super) fn with_own<T>(
         if let Some(there) = own.borrow().iter().find(is_there) {
             return call(&mut *shared.home().lock(&there.slot)?);
         }
-        let slot = new_own(shared, own)?;
+        let slot = make_own(shared, own)?;
         let mut log = shared.home().lock(&slot)?;
         call(&mut log)
     })
@@ -324,7 +327,7 @@ pub(super) fn with_own<T>(
 }
 
 #[cold]
-fn new_own(shared: &Arc<Shared>, own: &RefCell<Vec<Own>>) -> Result<Slot, Error> {
+fn make_own(shared: &Arc<Shared>, own: &RefCell<Vec<Own>>) -> Result<Slot, Error> {
     let slot = shared.new_slot()?;
     let mut own = own.borrow_mut();
     own.retain(|other| other.shared.strong_count() > 0);
@@ -342,6 +345,6 @@ pub(super) fn is_left(slot: &Slot) -> bool {
 }
 
 /// How many recordings it has.
-pub(super) fn len_of(slot: &Slot) -> usize {
+pub(super) fn count_noted(slot: &Slot) -> usize {
     lock(slot).recorder.len().unwrap_or(0)
 }

@@ -180,14 +180,14 @@ fn wait_for(
     until: Option<Instant>,
     unsent: Option<Arc<Export>>,
 ) -> Answer {
-    match answered.recv_timeout(left(until)) {
+    match answered.recv_timeout(time_left(until)) {
         Ok(answer) => answer,
         Err(RecvTimeoutError::Timeout) => Err(SdkError::Timeout { unsent }),
         Err(RecvTimeoutError::Disconnected) => Err(SdkError::NoThread),
     }
 }
 
-fn left(until: Option<Instant>) -> Duration {
+fn time_left(until: Option<Instant>) -> Duration {
     until.map_or(Duration::MAX, |end| {
         end.saturating_duration_since(Instant::now())
     })
@@ -301,7 +301,7 @@ impl Reading {
         };
         let mut due = Instant::now().checked_add(reader.interval);
         loop {
-            match requests.recv_timeout(left(due)) {
+            match requests.recv_timeout(time_left(due)) {
                 Err(RecvTimeoutError::Timeout) => {
                     let _ = reading.push(Duration::ZERO);
                     due = due.and_then(|tick| next_tick(tick, reader.interval));

@@ -87,19 +87,19 @@ impl Whole {
     fn flush(&self, timeout: Duration) -> Result<(), SdkError> {
         self.shared.home().check()?;
         let until = Instant::now().checked_add(timeout);
-        each(&self.readers, |reader| reader.flush(until))
+        for_each_reader(&self.readers, |reader| reader.flush(until))
     }
 
     /// The last export goes to every reader, and each of them ends.
     fn shutdown(&self, timeout: Duration) -> Result<(), SdkError> {
         let until = Instant::now().checked_add(timeout);
         let last = self.shared.close()?.map(Arc::new);
-        each(&self.readers, |reader| reader.shutdown(last.clone(), until))
+        for_each_reader(&self.readers, |reader| reader.shutdown(last.clone(), until))
     }
 }
 
 /// Does all, and answers the first that failed.
-fn each(
+fn for_each_reader(
     readers: &[Running],
     call: impl Fn(&Running) -> Result<(), SdkError>,
 ) -> Result<(), SdkError> {
@@ -116,7 +116,7 @@ impl Drop for Whole {
         }
         let until = Instant::now().checked_add(TIMEOUT);
         let last = self.shared.close().ok().flatten().map(Arc::new);
-        let _ = each(&self.readers, |reader| reader.shutdown(last.clone(), until));
+        let _ = for_each_reader(&self.readers, |reader| reader.shutdown(last.clone(), until));
     }
 }
 
@@ -298,7 +298,7 @@ impl MeterProviderBuilder {
     ///
     /// ```
     /// # use kotskhin::metrics::SdkMeterProvider;
-    /// let provider = SdkMeterProvider::builder().on_refused(|it| eprintln!("{it}")).build();
+    /// let provider = SdkMeterProvider::builder().on_refused(|refusal| eprintln!("{refusal}")).build();
     /// provider.meter("app").u64_counter("9 lives").build().add(1, &[]);
     /// assert_eq!(provider.refused(), 1);
     /// ```

@@ -1,5 +1,5 @@
 //! Who records.
-use crate::writer::drawn_instance;
+use crate::writer::draw_instance;
 
 /// Who records: a service, and its instance. Of two writers that share both and their start a gateway keeps one alone, so an instance is
 /// drawn anew where none is given.
@@ -51,7 +51,7 @@ impl ResourceBuilder {
     pub fn build(self) -> Resource {
         Resource {
             service: self.service,
-            instance: self.instance.unwrap_or_else(drawn_instance),
+            instance: self.instance.unwrap_or_else(draw_instance),
         }
     }
 }

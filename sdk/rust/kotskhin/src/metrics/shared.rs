@@ -151,7 +151,7 @@ impl Shared {
             instrument,
         };
         let mut declaring = lock(&self.declaring);
-        if let Some(number) = declaring.number_of(&request.instrument) {
+        if let Some(number) = declaring.find(&request.instrument) {
             return Ok(number);
         }
         match self.started.get() {
@@ -163,9 +163,9 @@ impl Shared {
     }
 
     /// The name of the instrument that another one would share a stream with, where it is refused for that.
-    pub fn other_of(&self, why: Error) -> Option<String> {
+    pub fn find_other(&self, why: Error) -> Option<String> {
         match why {
-            Error::SameStream { first, .. } => lock(&self.declaring).name_of(first),
+            Error::SameStream { first, .. } => lock(&self.declaring).instrument_name(first),
             _ => None,
         }
     }
@@ -272,7 +272,7 @@ impl Shared {
     ) -> Result<(), Error> {
         let started = self.start()?;
         let at = (&started.core, &started.cache);
-        let way = match logs::with_own(self, |log| log.way(at, instrument, attributes)) {
+        let way = match logs::with_own(self, |log| log.find_way(at, instrument, attributes)) {
             Some(way) => way?,
             // (an ending thread has no log)
             None => Way::Set(Attributes::new(attributes.iter().map(KeyValue::pair))?),
@@ -355,19 +355,23 @@ impl Shared {
     /// Tells the streams that an export shows to have come to their limit. (Where memory is wanting the next export shows them.)
     fn tell_limits(&self, started: &Started, collected: &Result<Export, Error>) {
         if let Ok(export) = collected {
-            let reached = lock(&started.limits).reached(&started.streams, export);
+            let reached = lock(&started.limits).find_reached(&started.streams, export);
             let limit = self.settings.limit;
             for stream in reached.unwrap_or_default() {
                 let why = Error::CardinalityLimit { limit };
-                self.refuse(&Refusal::new(started.name_of(stream), Refused::Sets, why));
+                self.refuse(&Refusal::new(
+                    started.stream_name(stream),
+                    Refused::Sets,
+                    why,
+                ));
             }
         }
     }
 
     fn refuse_all(&self, refused: impl IntoIterator<Item = Refusal>) {
-        refused
-            .into_iter()
-            .for_each(|refusal| self.refuse(&refusal));
+        for refusal in refused {
+            self.refuse(&refusal);
+        }
     }
 }
 
@@ -388,25 +392,25 @@ impl Started {
     }
 
     fn take_in_log(&self, core: &mut Core, log: &mut Log) -> Option<Refusal> {
-        self.refusal_of(&log.take_in(core).ok()?)
+        self.make_refusal(&log.take_in(core).ok()?)
     }
 
     /// The name of a stream of the plan.
-    fn name_of(&self, stream: usize) -> String {
+    fn stream_name(&self, stream: usize) -> String {
         self.streams
             .stream(stream)
             .map(|stream| stream.name)
             .unwrap_or_default()
     }
 
-    fn refusal_of(&self, taken: &Taken) -> Option<Refusal> {
+    fn make_refusal(&self, taken: &Taken) -> Option<Refusal> {
         let (_, why) = taken.first?;
         let stream = match why {
             Error::Overflow { stream } => usize::try_from(stream).ok(),
             _ => None,
         };
         let name = stream
-            .map(|stream| self.name_of(stream))
+            .map(|stream| self.stream_name(stream))
             .unwrap_or_default();
         Some(Refusal::of_recordings(name, why, taken.refused as u64))
     }
@@ -424,7 +428,7 @@ impl Started {
         let mut slots = lock(&self.slots);
         slots
             .list
-            .retain(|slot| !logs::is_left(slot) || logs::len_of(slot) > 0);
+            .retain(|slot| !logs::is_left(slot) || logs::count_noted(slot) > 0);
     }
 
     fn collect(&self) -> (Vec<Refusal>, Result<Export, Error>) {
@@ -434,7 +438,7 @@ impl Started {
         }
         let refused = self.take_in_all(&mut core);
         self.forget_left();
-        (refused, at_now(|time| core.writer.collect(time)))
+        (refused, call_now(|time| core.writer.collect(time)))
     }
 
     /// What a log has left for want of memory is lost, and told.
@@ -454,10 +458,10 @@ impl Started {
             log.is_closed = true;
             refused.extend(self.take_in_log(&mut core, &mut log));
         }
-        let collected = at_now(|time| core.writer.shutdown(time));
+        let collected = call_now(|time| core.writer.shutdown(time));
         core.is_ended = collected.is_ok();
         if core.is_ended {
-            refused.extend(list.iter().filter_map(lost_in));
+            refused.extend(list.iter().filter_map(count_lost));
             lock(&self.slots).list.clear();
         }
         (refused, collected)
@@ -465,13 +469,13 @@ impl Started {
 }
 
 /// What is left in a log that nobody takes in any more.
-fn lost_in(slot: &Slot) -> Option<Refusal> {
-    let count = logs::len_of(slot) as u64;
+fn count_lost(slot: &Slot) -> Option<Refusal> {
+    let count = logs::count_noted(slot) as u64;
     (count > 0).then(|| Refusal::of_recordings("", Error::NoMemory, count))
 }
 
 /// Collects at the time of the clock, or right after the last collection where the clock was put back.
-fn at_now(mut collect: impl FnMut(u64) -> Result<Export, Error>) -> Result<Export, Error> {
+fn call_now(mut collect: impl FnMut(u64) -> Result<Export, Error>) -> Result<Export, Error> {
     match collect(now()) {
         Err(Error::TimeNotAfter { last }) if last < u64::MAX => collect(last + 1),
         collected => collected,
@@ -490,7 +494,7 @@ pub(super) fn take_in_of_ending_thread(shared: &Shared, slot: &Slot) {
             return;
         };
         let taken = started.take_in(&mut core, slot);
-        if logs::len_of(slot) == 0 {
+        if logs::count_noted(slot) == 0 {
             let mut slots = lock(&started.slots);
             slots.list.retain(|other| !Arc::ptr_eq(other, slot));
         }
@@ -501,7 +505,7 @@ pub(super) fn take_in_of_ending_thread(shared: &Shared, slot: &Slot) {
 
 #[cfg(test)]
 mod tests {
-    use super::{Instruments, Plan, Writer, at_now, now};
+    use super::{Instruments, Plan, Writer, call_now, now};
     use crate::error::Error;
 
     #[test]
@@ -511,11 +515,11 @@ mod tests {
         let ahead = now() + 3_600_000_000_000;
         writer.collect(ahead)?;
         for later in 1..=2 {
-            let export = at_now(|time| writer.collect(time))?;
+            let export = call_now(|time| writer.collect(time))?;
             assert_eq!(export.head()?.time, ahead + later);
         }
         writer.collect(u64::MAX)?;
-        let at_the_end = at_now(|time| writer.collect(time)).err();
+        let at_the_end = call_now(|time| writer.collect(time)).err();
         assert_eq!(at_the_end, Some(Error::TimeNotAfter { last: u64::MAX }));
         Ok(())
     }

@@ -70,7 +70,7 @@ pub enum Aggregation {
 ///     .with_allowed_attribute_keys([Key::from_static_str("route")])
 ///     .build()?;
 /// let provider = SdkMeterProvider::builder()
-///     .with_view(move |it| (it.name() == "latency").then(|| latency.clone()))
+///     .with_view(move |instrument| (instrument.name() == "latency").then(|| latency.clone()))
 ///     .build();
 /// # Ok::<(), kotskhin::metrics::Refusal>(())
 /// ```
@@ -87,7 +87,7 @@ impl Stream {
     }
 
     /// A histogram of these bounds.
-    pub(super) fn of_bounds(boundaries: Vec<i64>) -> Stream {
+    pub(super) fn from_bounds(boundaries: Vec<i64>) -> Stream {
         Stream {
             aggregation: Aggregation::ExplicitBucketHistogram { boundaries },
             ..Stream::default()
@@ -95,7 +95,7 @@ impl Stream {
     }
 
     /// The kit's view that makes this stream of an instrument, which in the plan has the name `planned`.
-    pub(super) fn view_of(&self, instrument: &Instrument, planned: &str) -> Result<View, Error> {
+    pub(super) fn to_view(&self, instrument: &Instrument, planned: &str) -> Result<View, Error> {
         let mut view = View::of_name(planned)?;
         view.scope(&instrument.scope)?;
         view.kind(instrument.kind)?;
@@ -145,7 +145,7 @@ impl StreamBuilder {
     /// aggregation fits is told once an instrument has the stream.
     #[track_caller]
     pub fn build(self) -> Result<Stream, Refusal> {
-        match self.fault() {
+        match self.find_fault() {
             None => Ok(self.0),
             Some(why) => Err(Refusal {
                 declared: Some(Location::caller()),
@@ -155,7 +155,7 @@ impl StreamBuilder {
     }
 
     /// Why no instrument can have the stream.
-    fn fault(&self) -> Option<Error> {
+    fn find_fault(&self) -> Option<Error> {
         let any = Instrument {
             scope: String::new(),
             name: "any".to_owned(),

@@ -11,9 +11,9 @@ pub struct Told(pub Arc<Mutex<Vec<Refusal>>>);
 impl Told {
     pub fn hook(&self) -> impl Fn(&Refusal) + Send + Sync + 'static {
         let list = self.clone();
-        move |it| {
+        move |refusal| {
             let mut list = list.0.lock().unwrap_or_else(PoisonError::into_inner);
-            list.push(it.clone());
+            list.push(refusal.clone());
         }
     }
 
@@ -21,7 +21,7 @@ impl Told {
     pub fn all(&self) -> Vec<(String, Error, u64)> {
         let list = self.0.lock().unwrap_or_else(PoisonError::into_inner);
         list.iter()
-            .map(|it| (it.instrument.clone(), it.why, it.count))
+            .map(|refusal| (refusal.instrument.clone(), refusal.why, refusal.count))
             .collect()
     }
 
@@ -52,7 +52,7 @@ pub fn of_requests() -> Result<Ask, Error> {
 /// What all rows come to.
 pub fn total(rows: &[Row]) -> i128 {
     rows.iter()
-        .map(|it| match it.total {
+        .map(|row| match row.total {
             Total::Sum(sum) => sum,
             _ => 0,
         })
