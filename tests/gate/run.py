@@ -261,12 +261,10 @@ class Gate:
             return self.listed
 
         def in_tiers(tasks):
-            tasks = self.without_proofs_of_tests(after_proofs(tasks))
+            tasks = after_proofs(tasks)
             later = {it.name for it in self.later} if self.listed is not None else set()
             given = in_lanes({key: task for key, task in tasks.items() if key[0] not in later})
             self.note_tests()
-            failed = [f"{name} (tests)" for name, passed in self.tested.items() if not passed]
-            self.tier("tests whose proof is known, run without it", len(self.tested) - len(failed), failed)
             self.stage("proofs and tests")
             if all(given.values()):
                 self.first()
@@ -314,23 +312,20 @@ class Gate:
                 self.book.note_tests(crate, told)
         self.book.write(self.every)
 
-    def without_proofs_of_tests(self, tasks):
-        """The tasks, of which tests whose proof the ledger knows are run without it, once their crate is proved."""
+    def tests_alone(self):
+        """Runs the tests whose proof the ledger knows: each must pass in time."""
 
-        def run(crate, given):
-            if given[crate.name, "proof"]:
-                self.tested[crate.name] = not trials.is_over() and unproved.run_tests(crate)
-            return True
+        def run(crate):
+            self.tested[crate.name] = not trials.is_over() and unproved.run_tests(crate)
 
-        for crate in self.known_tests:
-            waits, *_ = tasks[crate.name, "tests"]
-            call = patiently(f"{crate.name}: its tests", run)
-            # (of no lines, so that proofs, on which more waits, come before them)
-            tasks[crate.name, "tests"] = waits, 0, unproved.MEMORY, lambda given, jobs, it=crate, call=call: call(it, given)
-        return tasks
+        trials.side_by_side([(unproved.MEMORY, lambda it=it: patiently(f"{it.name}: its tests", run)(it)) for it in self.known_tests])
+        failed = [f"{it.name} (tests)" for it in self.known_tests if not self.tested[it.name]]
+        self.tier("tests whose proof is known, run without it", len(self.tested) - len(failed), failed)
+        self.stage("tests without their proofs")
 
     def first(self):
-        """What each run does once the product crates are proved: the runners of tests/, and the edits of the change."""
+        """What each run does once the product crates are proved: tests without their proofs, the runners, and the edits of the change."""
+        self.tests_alone()
         behind = {folders[0] for folders, _ in known.LATER.values() if folders} if self.listed is not None else set()
         names = sorted(it.parent.name for it in TOP.glob("tests/*/run.py") if it.parent != HERE)
         self.tier("runners of tests/", *runners([it for it in names if it not in behind], self.ledger))

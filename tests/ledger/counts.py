@@ -53,8 +53,7 @@ def begun(crates):
 
 def without_proofs():
     """What is counted of tests and programs without a proof, of which one is well, one fails, and one has no time."""
-    crates = [types.SimpleNamespace(name=it, is_tested=lambda: False) for it in ("well", "bad", "broken", "late")]
-    others = [types.SimpleNamespace(name="other")]
+    crates = [types.SimpleNamespace(name=it, is_tested=lambda: False) for it in ("well", "bad", "late")]
     over = [False]
     kept = gate.unproved.run_tests, gate.unproved.build_program, gate.rt.run, gate.trials.is_over, gate.rt.processors
 
@@ -66,21 +65,17 @@ def without_proofs():
     gate.trials.is_over, gate.rt.processors = lambda: over[0], lambda: 1
     with contextlib.redirect_stdout(io.StringIO()):
         tests, programs = begun(crates), begun(crates)
-        tasks = tests.without_proofs_of_tests({(it.name, "tests"): ([(it.name, "proof")], 100, 1, None) for it in [*crates, *others]})
-        proofs = {(it.name, "proof"): it.name != "broken" for it in crates}
-        well = [tasks[it.name, "tests"][3](proofs, 1) for it in crates]
+        tests.tests_alone()
         over[0] = False
         programs.without_proof(crates)
         gate.rt.run, over[0] = lambda crate, tests: False, False
         wrong = begun(crates[:1])
         wrong.without_proof(crates[:1])
     gate.unproved.run_tests, gate.unproved.build_program, gate.rt.run, gate.trials.is_over, gate.rt.processors = kept
-    yield "tests without a proof fail where they do not pass, or have no time", tests.tested == {"well": True, "bad": False, "late": False}
-    yield "they are not run where their crate is not proved, and hold nothing up", all(well) and tasks["well", "tests"][0] == [("well", "proof")]
-    yield "other tests are proved", tasks["other", "tests"][3] is None
-    failed = ["bad (built without a proof)", "broken (built without a proof)"]
-    yield "a program that is not built fails", (programs.passed, programs.failed) == (1, failed)
-    yield "one for which there was no time is left", not programs.is_built("late", {}) and programs.unproved == ["well", "bad", "broken"]
+    failed = ["bad (tests)", "late (tests)"]
+    yield "tests that fail without a proof, or have no time, fail", (tests.passed, tests.failed) == (1, failed)
+    yield "a program that is not built fails", (programs.passed, programs.failed) == (1, ["bad (built without a proof)"])
+    yield "one for which there was no time is left", not programs.is_built("late", {}) and programs.unproved == ["well", "bad"]
     yield "one that runs otherwise than it must fails", (wrong.passed, wrong.failed) == (0, ["well (built without a proof)"])
 
 
