@@ -23,7 +23,9 @@ import sys
 import time
 
 sys.dont_write_bytecode = True
+sys.path.append(str(pathlib.Path(__file__).resolve().parents[1] / "gate"))
 import careless
+import checks
 import schedules
 
 TOP = pathlib.Path(__file__).resolve().parents[2]
@@ -189,6 +191,8 @@ def main():
         wrong += bad_lines(program)
     if asked.soak:
         wrong += soak(programs[0], asked.soak)
+    tried = asked.schedules + (len(careless.SCRIPTS) + len(BAD)) * len(programs) + bool(asked.soak)
+    checks.note_all("schedules, scripts, bad lines and a soak", tried, wrong)
     for line in wrong[:8]:
         print(f"  NOT AS TOLD: {line}")
     print("archives: " + (f"{len(wrong)} NOT AS TOLD" if wrong else "all as told"))

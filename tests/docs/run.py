@@ -33,6 +33,10 @@ import pathlib
 import re
 import sys
 
+sys.dont_write_bytecode = True
+sys.path.append(str(pathlib.Path(__file__).resolve().parents[1] / "gate"))
+import checks
+
 TOP = pathlib.Path(sys.argv[1] if sys.argv[1:] else pathlib.Path(__file__).resolve().parents[2]).resolve()
 PAGES = ["README.md", "CONTRIBUTING.md", *sorted(str(page.relative_to(TOP)) for page in (TOP / "docs").glob("*/*.md"))]
 MOST_WORDS, MOST_WIDE, MOST_IN_CELL = 29, 140, 200
@@ -439,6 +443,7 @@ class Docs:
 def main():
     docs = Docs()
     docs.check()
+    checks.note_all("claims", docs.claims, docs.faults)
     for fault in docs.faults:
         print(f"NOT AS TOLD: {fault}")
     print(f"docs: {docs.claims} claims of clauses and files looked at, {len(docs.faults)} not as told")

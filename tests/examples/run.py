@@ -26,6 +26,10 @@ import re
 import subprocess
 import sys
 
+sys.dont_write_bytecode = True
+sys.path.append(str(pathlib.Path(__file__).resolve().parents[1] / "gate"))
+import checks
+
 TOP = pathlib.Path(__file__).resolve().parents[2]
 ROWS = pathlib.Path(__file__).resolve().parent / "rows"
 BAD_END = re.compile(rb"(?:.*\n)?line [0-9]+\n", re.S)
@@ -473,10 +477,12 @@ def main():
         print("NO PROGRAM OR NO SCRIPT: rt ci, or rt run in crates/otm, makes the program")
     for name, told in [*quotes(), *shown(), *told_sentences(), *told_notes()]:
         failed = failed or bool(told)
+        checks.note(name, not told)
         print(f"{name}: {'NOT AS TOLD: ' + told if told else 'as told'}")
     for program in programs:
         for name, told in cases(program):
             failed = failed or bool(told)
+            checks.note(f"{program.name}: {name}", not told)
             print(f"{program.name}: {name}: {'NOT AS TOLD: ' + told if told else 'as told'}")
     return failed
 

@@ -22,6 +22,8 @@ import sys
 import tempfile
 
 sys.dont_write_bytecode = True
+sys.path.append(str(pathlib.Path(__file__).resolve().parents[1] / "gate"))
+import checks
 import kept
 
 HERE = pathlib.Path(__file__).resolve().parent
@@ -398,6 +400,7 @@ def main():
     if failed:
         print("NO PROGRAM: rt ci, or rt run in crates/otm, makes it")
     failed = failed or told_bytes() != EXAMPLE
+    checks.note("the worked example", told_bytes() == EXAMPLE)
     print(f"the worked example: {'as told' if told_bytes() == EXAMPLE else 'OTHER BYTES'}")
     for program in programs:
         with tempfile.TemporaryDirectory() as folder, tempfile.TemporaryDirectory() as room:
@@ -406,6 +409,7 @@ def main():
                 (folder / name).write_bytes(content)
             for name, told in cases(program, folder, room):
                 failed = failed or bool(told)
+                checks.note(f"{program.name}: {name}", not told)
                 print(f"{program.name}: {name}: {'NOT AS TOLD: ' + told if told else 'as told'}")
     return int(failed)
 

@@ -8,6 +8,10 @@ import pathlib
 import subprocess
 import sys
 
+sys.dont_write_bytecode = True
+sys.path.append(str(pathlib.Path(__file__).resolve().parents[1] / "gate"))
+import checks
+
 TOP = pathlib.Path(__file__).resolve().parents[2]
 BUILDS = ("otm", "otm.by-rattle")
 SECONDS = 60
@@ -83,7 +87,8 @@ def main():
     for program in programs:
         faults = [wrong(program, *row) for row in TOTALS] + [taken(program, options) for options in REFUSED] + [unwritten(program)]
         faults += [wrong(program, MANY, 3, 8_000) for _ in range(count)]
-        faults = [one for one in faults if one]
+        tried, faults = len(faults), [fault for fault in faults if fault]
+        checks.note_all(f"{program.name}: fleets", tried, faults)
         for fault in faults[:6]:
             print(f"{program.name}: NOT AS TOLD: {fault}")
         print(f"{program.name}: {count + len(TOTALS)} fleets, {len(REFUSED)} refused words, a full device: {f'{len(faults)} NOT AS TOLD' if faults else 'as told'}")

@@ -13,7 +13,10 @@ an edit lies in no function, all of its crate takes part. A line that ends in `u
 An edit that has no line, or one with another digest, is of the change at hand: a gate that leaves it untried fails. `leave` excuses those of them whose line
 says `untried` already. A new edit, and one that a run saw refused once, can't be left; so lines `untried` only grow fewer.
 
-A program of LATER has a line too, under its crate's name: with all that it runs, its digest has the bodies of the crates below."""
+A program of LATER has a line too, under its crate's name: with all that it runs, its digest has the bodies of the crates below.
+
+The tests of a crate have a line as CRATE/tests, once a run saw them proved. Its digest has all texts of the crate, those of tests too, what these see of the
+crates below, HANDLES and the toolchain. Where it is today's, a gate runs the tests without proving them again; else it proves them."""
 import collections
 import hashlib
 import os
@@ -28,6 +31,7 @@ from kit import edits_of, rtlib, version
 
 TOP = pathlib.Path(__file__).resolve().parents[2]
 LEDGER = TOP / "tests" / "gate" / "known.txt"
+HANDLES = TOP / "HANDLES"
 OWN = ("src", "specs", "proofs")
 # The files of proofs/ that are of one function, whose folder has its name, or that with a plus before it.
 OF_FUNCTIONS = ("Answers.antt", "Invariants.antt", "Proof.antt")
@@ -44,12 +48,12 @@ HEAD = """\
 """
 
 
-def texts(folder, parts):
-    """The files of these parts of a crate, each with its name, in order, without lines that are comments, and without tests."""
-    modules = modules_of_tests(pathlib.Path(folder, "src"))
+def texts(folder, parts, with_tests=False):
+    """The files of these parts of a crate, each with its name, in order, without lines that are comments; tests only where asked for."""
+    modules = set() if with_tests else modules_of_tests(pathlib.Path(folder, "src"))
     files = [it for part in parts for it in pathlib.Path(folder, part).rglob("*") if it.suffix in (".rt", ".antt")]
     named = [(it.relative_to(folder), it) for it in sorted(files)]
-    return [(str(name), told(it)) for name, it in named if not modules & {*modules_above(name)}]
+    return [(str(name), told(it, with_tests)) for name, it in named if not modules & {*modules_above(name)}]
 
 
 def modules_of_tests(src):
@@ -68,9 +72,9 @@ def modules_above(name):
     return inner.with_suffix(""), *inner.parents
 
 
-def told(file):
+def told(file, with_tests=False):
     text = file.read_text(encoding="utf-8")
-    return without_comments(OF_TESTS.sub("", text), "//") if file.suffix == ".rt" else without_comments(text, "--")
+    return without_comments(text if with_tests else OF_TESTS.sub("", text), "//") if file.suffix == ".rt" else without_comments(text, "--")
 
 
 def without_comments(text, begins):
@@ -107,11 +111,11 @@ def contracts_of(crate):
     return digest_of([crate.name, *(it for pair in found for it in pair)])
 
 
-def seen_below(crate):
-    """The digest of what a crate sees of those below it."""
-    below, own = crate.below(), "\n".join(text for _, text in texts(crate.folder, OWN))
+def seen_below(crate, with_tests=False):
+    """The digest of what a crate, or its tests, see of those below it."""
+    below, own = crate.below(), "\n".join(text for _, text in texts(crate.folder, OWN, with_tests))
     outsides = {it.name: seen.outside_of(tuple(texts(it.folder, ("src",)))) for it in below}
-    sources = seen.sources_seen("\n".join(text for _, text in texts(crate.folder, ("src",))), seen.words_of(own), outsides)
+    sources = seen.sources_seen("\n".join(text for _, text in texts(crate.folder, ("src",), with_tests)), seen.words_of(own), outsides)
     files = [(of, *it) for of in sorted(sources) for it in sources[of]]
     specs = {(it.name, module_of(name)): text for it in below for name, text in texts(it.folder, ("specs",))}
     found = seen.definitions_seen(specs, seen.cited(crate.name, own).union(*(seen.cited(of, text) for of, _, text in files)))
@@ -142,6 +146,13 @@ def ground_of(crate, toolchain):
 def ground_of_functions(crate, toolchain):
     """The digest of what each edit of a crate stands on, but for the functions that it changes and its own text."""
     return digest_of([toolchain, contracts_of(crate), seen_below(crate)])
+
+
+def ground_of_tests(crate, toolchain):
+    """The digest of what the proof of a crate's tests stands on."""
+    own = [it for pair in texts(crate.folder, OWN, with_tests=True) for it in pair]
+    handles = HANDLES.read_text(encoding="utf-8") if HANDLES.is_file() else ""
+    return digest_of([toolchain, "tests", handles, crate.name, *own, seen_below(crate, with_tests=True)])
 
 
 def functions_of(crate, path, proofs):
@@ -234,6 +245,17 @@ class Known:
     def note_program(self, crate, crates):
         self.lines[crate.name] = ground_of_program(crate, self.toolchain, crates), True
 
+    def has_tests(self, crate):
+        """Whether a run saw the tests of this crate proved, as they are."""
+        return self.lines.get(tests_of(crate)) == (ground_of_tests(crate, self.toolchain), True)
+
+    def note_tests(self, crate, is_proved):
+        """Notes what came of the proof of a crate's tests."""
+        if is_proved:
+            self.lines[tests_of(crate)] = ground_of_tests(crate, self.toolchain), True
+        else:
+            self.lines.pop(tests_of(crate), None)
+
     def untried(self):
         return sum(not was_refused for _, was_refused in self.lines.values())
 
@@ -241,24 +263,27 @@ class Known:
         """Says of an edit that it is left as it is."""
         self.lines[name_of(crate, path)] = self.digest(crate, path), False
 
-    def renew(self, found):
-        """Begins the ledger anew under another toolchain: what no run has seen refused under this one is left."""
+    def renew(self, crates):
+        """Begins the ledger anew under another toolchain: what no run has seen refused or proved under this one is not known, and edits are left."""
+        found = edits_in(crates)
         fresh = {name_of(*it): self.lines.get(name_of(*it)) == (self.digest(*it), True) for it in found}
         waiting = [it for it in found if not fresh[name_of(*it)] and self.kind(*it) != CHANGED]
+        fresh |= {tests_of(it): self.has_tests(it) for it in crates} | {it.name: self.has_program(it, crates) for it in crates if it.name in LATER}
         self.lines = {name: line for name, line in self.lines.items() if fresh.get(name)}
         for it in waiting:
             self.leave(*it)
         self.of = self.toolchain
 
-    def write(self, found):
-        """Writes the ledger, with those edits alone that there are, each given as its crate and its file."""
+    def write(self, crates):
+        """Writes the ledger, with what there is in these crates alone."""
+        found = edits_in(crates)
         if self.of != self.toolchain:
-            self.renew(found)
+            self.renew(crates)
         for it in found:
             digest, was_refused = self.lines.get(name_of(*it), ("", False))
             if digest in self.digests(*it, self.toolchain):
                 self.lines[name_of(*it)] = self.digest(*it), was_refused
-        names = {name_of(*it) for it in found} | set(LATER)
+        names = {name_of(*it) for it in found} | {tests_of(it) for it in crates} | set(LATER)
         self.lines = {name: line for name, line in self.lines.items() if name in names}
         lines = [f"{name} {digest}{'' if was_refused else ' untried'}\n" for name, (digest, was_refused) in sorted(self.lines.items())]
         self.file.write_text(HEAD.format(toolchain=self.toolchain) + "".join(lines), encoding="utf-8")
@@ -268,19 +293,28 @@ def name_of(crate, path):
     return f"{crate.name}/{os.path.basename(path)}"
 
 
+def tests_of(crate):
+    """The name of the line of a crate's tests."""
+    return f"{crate.name}/tests"
+
+
 def edits_in(crates):
     """Each edit of these crates, with its crate."""
     return [(crate, path) for crate in crates for path in edits_of(crate)[0]]
 
 
-def merge(book, found, files):
+def merge(book, crates, files):
     """Takes the lines of other ledgers that hold of this tree; gives how many were not known before."""
     new = 0
     for file in files:
         other = Known(file, book.toolchain)
-        for crate, path in found:
+        for crate, path in edits_in(crates):
             if book.kind(crate, path) != KNOWN and other.kind(crate, path) == KNOWN:
                 book.note(crate, path, True)
+                new += 1
+        for crate in crates:
+            if other.has_tests(crate) and not book.has_tests(crate):
+                book.note_tests(crate, True)
                 new += 1
     return new
 
@@ -298,18 +332,21 @@ def main(words):
     crates = rtlib.crates_below(str(TOP))
     book, found = Known(), edits_in(crates)
     if words[:1] == ["merge"] and words[1:]:
-        print(f"{merge(book, found, words[1:])} edits more are known")
-        book.write(found)
+        print(f"{merge(book, crates, words[1:])} edits and proofs of tests more are known")
+        book.write(crates)
     elif words == ["leave"]:
         for it in leave(book, found):
             print(f"{name_of(*it)} is new, or a run saw it refused: it is to be tried")
-        book.write(found)
+        book.write(crates)
     elif words:
         print(__doc__)
         return 2
     kinds = collections.Counter((crate.name, book.kind(crate, path)) for crate, path in found)
     for name in dict.fromkeys(crate.name for crate, _ in found):
         print(f"{name}: " + ", ".join(f"{kinds[name, kind]} {kind}" for kind in (KNOWN, BEFORE, CHANGED) if kinds[name, kind]))
+    tested = [it for it in crates if it.name not in LATER and it.has_tests()]
+    for what, is_known in (("known", True), ("of this change", False)):
+        print(f"proofs of tests {what}: {' '.join(it.name for it in tested if book.has_tests(it) == is_known) or 'none'}")
     print(f"{len(found)} edits: " + ", ".join(f"{sum(n for (_, it), n in kinds.items() if it == kind)} {kind}" for kind in (KNOWN, BEFORE, CHANGED)))
     return 0
 

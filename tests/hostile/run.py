@@ -21,6 +21,8 @@ import tempfile
 
 sys.dont_write_bytecode = True
 sys.path.insert(0, str(pathlib.Path(__file__).resolve().parents[1] / "faults"))
+sys.path.append(str(pathlib.Path(__file__).resolve().parents[1] / "gate"))
+import checks
 import faults
 import gossip
 import plain
@@ -216,6 +218,7 @@ def ended(ends):
 def say(text, wrong):
     """Prints what was done, and what was not as told. Whether something was not."""
     print(text)
+    checks.note(text, not wrong)
     for line in wrong[:6]:
         print(f"  NOT AS TOLD: {line}")
     if len(wrong) > 6:

@@ -32,6 +32,8 @@ import urllib.parse
 import urllib.request
 
 sys.dont_write_bytecode = True
+sys.path.append(str(pathlib.Path(__file__).resolve().parents[1] / "gate"))
+import checks
 import pages
 import wanted
 
@@ -292,7 +294,9 @@ def main():
         is_used, missing = wanted.look(program, shutil.which(program))
         faults += missing
         if is_used:
-            faults += not tried(run)
+            did = tried(run)
+            checks.note(f"live: {program}", did)
+            faults += not did
     return min(faults, 1)
 
 

@@ -18,6 +18,8 @@ import sys
 import typing
 
 sys.dont_write_bytecode = True
+sys.path.append(str(pathlib.Path(__file__).resolve().parents[1] / "gate"))
+import checks
 import wanted
 
 TESTS = pathlib.Path(__file__).resolve().parents[2] / "crates" / "page_kit" / "src" / "tests.rt"
@@ -90,13 +92,14 @@ def remarks_of(page):
 def main():
     reader = python()
     reads, faults = wanted.look("python3-prometheus-client", reader)
-    checks, more = wanted.look("promtool", shutil.which("promtool"))
+    looks, more = wanted.look("promtool", shutil.which("promtool"))
     faults += more
     for page in pages():
         fault = fault_of(reader, page) if reads else ""
-        if checks and page.form == "prometheus":
+        if looks and page.form == "prometheus":
             fault += remarks_of(page)
         faults += bool(fault)
+        checks.note(page.name, not fault)
         print(f"{page.name}: {fault or 'ok'}")
     return min(faults, 1)
 

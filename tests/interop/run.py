@@ -18,6 +18,8 @@ import subprocess
 import sys
 
 sys.dont_write_bytecode = True
+sys.path.append(str(pathlib.Path(__file__).resolve().parents[1] / "gate"))
+import checks
 import live
 import pages
 import wanted
@@ -60,6 +62,7 @@ def main():
     for name, request in requests() if is_used else ():
         fault = fault_of(request)
         faults += bool(fault)
+        checks.note(name, not fault)
         print(f"{name}: {fault or 'ok'}")
     return min(faults + pages.main() + live.main(), 1)
 

@@ -1,5 +1,5 @@
 #!/usr/bin/env python3
-"""The gate's ledger, held to what docs/maintain/GATE.md says of it, on a small tree made for it: nothing is proved here.
+"""The gate's ledger, and what it counts (counts.py), held to what docs/maintain/GATE.md says of them, on a small tree: nothing is proved here.
 
 This ends with a status other than 0 where one of these does not hold."""
 import pathlib
@@ -8,6 +8,8 @@ import tempfile
 
 sys.dont_write_bytecode = True
 sys.path.insert(0, str(pathlib.Path(__file__).resolve().parents[1] / "gate"))
+import checks
+import counts
 import known
 from known import BEFORE, CHANGED, KNOWN
 
@@ -90,6 +92,7 @@ class Trial:
 
     def says(self, what, is_so):
         self.looked += 1
+        checks.note(what, is_so)
         if not is_so:
             self.faults.append(what)
 
@@ -102,7 +105,7 @@ class Trial:
         for edit in self.found():
             book.note(*edit, True)
         book.note_program(self.program, self.crates)
-        book.write(self.found())
+        book.write(self.crates)
 
     def has_program(self):
         return self.book().has_program(self.program, self.crates)
@@ -146,6 +149,45 @@ class Trial:
             file.unlink() if was is None else self.low.write(path, was)
         self.says("what is as it was is known again", self.kinds() == [KNOWN] * 3 and self.has_program())
 
+    def proofs_of_tests(self):
+        """What becomes of the lines of tests, whose proofs stand on all texts of their crate."""
+        book, low, high = self.book(), self.low, self.high
+        self.low.write("src/tests.rt", "fn test() {}\n")
+        self.says("without a line no proof of tests is known", not book.has_tests(low) and not book.has_tests(high))
+        book.note_tests(low, True)
+        book.note_tests(high, True)
+        book.write(self.crates)
+        self.says("what a run saw proved is known", self.tests_known() == [True, True])
+        for what, path, text, known_ in (
+            ("a comment changes no proof of tests", "src/tests.rt", "// Why.\nfn test() {}\n", [True, True]),
+            ("another test changes its crate's alone", "src/tests.rt", "fn other() {}\n", [False, True]),
+            ("what is below a module of tests does so", "src/tests/tables.rt", "fn table() {}\n", [False, True]),
+            ("so does a proof of a test", "proofs/tests/test/Answers.antt", "step", [False, True]),
+            ("so does a body", "src/lib.rt", SOURCE.replace("below(n)", "below(n / 1)"), [False, True]),
+            ("so does a lemma", "proofs/Steps.antt", "step", [False, True]),
+            ("a contract changes those above too", "src/lib.rt", SOURCE.replace("result ≡ n + 1", "result ≥ n"), [False, False]),
+            ("so does a definition that one cites", "specs/Words.antt", "word\n" + WORDS, [False, False]),
+            ("an edit changes none", "must-fail/it_is_the_same.edit", EDIT + "\n", [True, True]),
+        ):
+            file = pathlib.Path(self.low.folder, path)
+            file.parent.mkdir(exist_ok=True, parents=True)
+            was = file.read_text(encoding="utf-8") if file.is_file() else None
+            self.low.write(path, text)
+            self.says(what, self.tests_known() == known_)
+            file.unlink() if was is None else self.low.write(path, was)
+        self.says("under another toolchain no proof of tests is known", not self.book("two").has_tests(low))
+        known.HANDLES.write_text("Handles allowed: Wait.\n", encoding="utf-8")
+        self.says("nor where other handles are allowed", self.tests_known() == [False, False])
+        known.HANDLES.unlink()
+        book = self.book()
+        book.note_tests(high, False)
+        book.write(self.crates)
+        self.says("what a run saw not proved is known no more", self.tests_known() == [True, False])
+        pathlib.Path(self.low.folder, "src/tests.rt").unlink()
+
+    def tests_known(self):
+        return [self.book().has_tests(it) for it in (self.low, self.high)]
+
     def leaving(self):
         """What may be left, and what may not."""
         book = self.book()
@@ -153,17 +195,17 @@ class Trial:
         self.says("what a run saw refused can't be left", len(known.leave(book, self.found())) == 3 and not book.untried())
         book.lines = {}
         self.says("a ledger without lines begins with all left", not known.leave(book, self.found()))
-        book.write(self.found())
+        book.write(self.crates)
         self.says("what is left is told as left", self.kinds() == [BEFORE] * 3)
         book = self.book()
         book.note(*self.high.edit(), True)
-        book.write(self.found())
+        book.write(self.crates)
         self.says("what is tried is left no more", self.kinds() == [BEFORE, KNOWN, BEFORE] and self.book().untried() == 2)
         self.low.write("src/lib.rt", SOURCE)
         self.says("what was left and then changed is of the change", self.kinds() == [CHANGED] * 3)
         book = self.book()
         self.says("it may be left again, and nothing else", known.leave(book, self.found()) == [self.high.edit()])
-        book.write(self.found())
+        book.write(self.crates)
         self.says("and is then told so", self.kinds() == [BEFORE, CHANGED, BEFORE])
         self.all_refused()
 
@@ -171,31 +213,42 @@ class Trial:
         self.says("under another toolchain nothing is known, and all was left", self.kinds("two") == [BEFORE] * 3)
         book = self.book("two")
         book.note(*self.high.edit(), True)
-        book.write(self.found())
+        book.note_tests(self.high, True)
+        book.note_program(self.program, self.crates)
+        book.write(self.crates)
         self.says("it begins a ledger of its own", self.kinds("two") == [BEFORE, KNOWN, BEFORE] and self.book("two").untried() == 2)
+        fresh = self.book("two")
+        self.says("in which proofs of tests count that were made under it", not fresh.has_tests(self.low) and fresh.has_tests(self.high))
+        self.says("and programs that were proved under it", fresh.has_program(self.program, self.crates))
 
     def merging(self, other):
         pathlib.Path(self.file).unlink()
         book = self.book()
         book.note(*self.low.edit(), True)
-        book.write(self.found())
+        book.note_tests(self.low, True)
+        book.write(self.crates)
         pathlib.Path(self.file).rename(other)
         book = self.book()
         book.note(*self.high.edit(), True)
-        self.says("one line of another clone comes in", known.merge(book, self.found(), [other]) == 1)
-        book.write(self.found())
-        self.says("and both are known", self.kinds() == [KNOWN, KNOWN, CHANGED])
+        self.says("an edit and a proof of tests of another clone come in", known.merge(book, self.crates, [other]) == 2)
+        book.write(self.crates)
+        self.says("and both edits are known", self.kinds() == [KNOWN, KNOWN, CHANGED])
+        self.says("and the proof of tests", self.tests_known() == [True, False])
         self.low.write("src/lib.rt", SOURCE.replace("result ≡", "result ≥"))
-        self.says("a line of another text does not", known.merge(self.book(), self.found(), [other]) == 0)
+        self.says("a line of another text does not", known.merge(self.book(), self.crates, [other]) == 0)
 
 
 def main():
     with tempfile.TemporaryDirectory(prefix="ledger-") as top:
+        known.HANDLES = pathlib.Path(top, "HANDLES")
         trial = Trial(top)
         trial.changes()
+        trial.proofs_of_tests()
         trial.leaving()
         trial.toolchains()
         trial.merging(f"{top}/other.txt")
+        for what, is_so in counts.all_of(f"{top}/counted"):
+            trial.says(what, is_so)
     book = known.Known()
     for fault in trial.faults:
         print(f"NOT SO: {fault}")

@@ -12,6 +12,10 @@ import subprocess
 import sys
 import tempfile
 
+sys.dont_write_bytecode = True
+sys.path.append(str(pathlib.Path(__file__).resolve().parents[1] / "gate"))
+import checks
+
 TOP = pathlib.Path(__file__).resolve().parents[2]
 ROOT_FILE = "#![tactic(auto)]\n\n{modules}\n\n#[cfg(test)]\nmod tests {{\n    #[test]\n    fn compiles() {{}}\n}}\n"
 
@@ -54,10 +58,13 @@ def main():
         want = wanted(callers)
         got, output = told(callers, folder.name)
         for name, line, error in sorted(want & got):
+            checks.note(f"{folder.name}/{name}:{line} {error}", True)
             print(f"refused: {folder.name}/{name}:{line} {error}")
         for name, line, error in sorted(want - got):
+            checks.note(f"{folder.name}/{name}:{line} {error}", False)
             print(f"NOT REFUSED: {folder.name}/{name}:{line} {error}")
         for name, line, error in sorted(got - want):
+            checks.note(f"{folder.name}/{name}:{line} should compile", False)
             print(f"REFUSED, BUT SHOULD COMPILE: {folder.name}/{name}:{line} {error}")
         if want != got or not want:
             failed = True

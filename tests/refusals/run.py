@@ -21,6 +21,8 @@ import tempfile
 
 sys.dont_write_bytecode = True
 sys.path.insert(0, str(pathlib.Path(__file__).resolve().parents[1] / "faults"))
+sys.path.append(str(pathlib.Path(__file__).resolve().parents[1] / "gate"))
+import checks
 import faults
 
 WORKERS = 2
@@ -254,6 +256,7 @@ def outgrown(program):
 def say(name, text, wrong):
     """Prints what came of a call or a script, and whether something is wrong."""
     print(f"{name}: {text}")
+    checks.note(name, not wrong)
     for line in wrong[:6]:
         print(f"  NOT AS TOLD: {line}")
     if len(wrong) > 6:
@@ -290,7 +293,9 @@ def refuse_scripts(library, pool):
         growths, spared, wrong = fleet_faults(library, program)
         total += growths
         failed |= say(f"{program.name}: {' '.join(FLEET)}", f"{growths} growths refused in turn, {spared} times not needed", wrong)
-        failed |= bool(outgrown(program))
+        wrong = outgrown(program)
+        checks.note(f"{program.name}: a script that outgrows its memory", not wrong)
+        failed |= bool(wrong)
     return failed, total
 
 

@@ -47,6 +47,8 @@ TOP = pathlib.Path(__file__).resolve().parents[2]
 SDK = TOP / "sdk"
 HERE = TOP / "tests" / "sdk"
 sys.path.insert(0, str(HERE))
+sys.path.append(str(HERE.parent / "gate"))
+import checks
 import there
 
 ARCHIVE = TOP / "crates" / "kit_c" / "out" / "libkit_c.a"
@@ -80,6 +82,7 @@ class Run:
     def say(self, what, fault):
         self.passed += not fault
         self.failed += bool(fault)
+        checks.note(what, not fault)
         print(f"{what}: {fault or 'ok'}", flush=True)
 
     def run(self, what, *command, prints=None, **given):

@@ -47,6 +47,9 @@ TOP = HERE.parents[1]
 SDK, SERVICE = TOP / "sdk", TOP / "service"
 ARCHIVE = TOP / "crates" / "kit_c" / "out" / "libkit_c.a"
 sys.path[:0] = [str(HERE), str(SDK / "python")]
+sys.path.append(str(HERE.parent / "gate"))
+import checks
+
 WANTED = ("go", "go-staticcheck", "pkg-config", "prometheus")
 # How long the short form's chaos goes on for a seed, and its seeds.
 SECONDS, SEEDS, BAD, SOAK = 5, 2, 300, 1500
@@ -117,9 +120,11 @@ class Run:
             told = call()
         except (Fault, OSError, subprocess.SubprocessError) as fault:
             self.failed += 1
+            checks.note(what, False)
             print(f"{what}: FAILED: {fault}", flush=True)
             return
         self.passed += 1
+        checks.note(what, True)
         print(f"{what}: ok, in {time.monotonic() - began:.1f} s{'' if told is None else f': {told}'}", flush=True)
 
     def module(self, kit):
