@@ -166,7 +166,8 @@ def whole_version():
 
 
 def version_in_c():
-    return f"#define KIT_VERSION {whole_version()} /* {version.VERSION}: the first number * 65536 + the second * 256 + the third */"
+    number = f"#define KIT_VERSION {whole_version()} /* {version.VERSION}: the first number * 65536 + the second * 256 + the third */"
+    return f'{number}\n#define KIT_VERSION_TEXT "{version.VERSION}"'
 
 
 def header():

@@ -28,6 +28,10 @@ extern "C" {
 #endif
 
 #define KIT_VERSION 256 /* 0.1.0: the first number * 65536 + the second * 256 + the third */
+#define KIT_VERSION_TEXT "0.1.0"
+/* What KIT_VERSION and kit_version tell more where the library was made without its proofs (`sdk/build --quick`): to try it, and never in a
+ * release. */
+#define KIT_NOT_PROVED 2147483648u
 
 /* KIT_CALL stands before each call, KIT_CHECKED also before each that may be refused: its answer is to be looked at. */
 #if defined(__GNUC__) || defined(__clang__)
@@ -427,6 +431,11 @@ KIT_CALL uint32_t kit_version(void);
 /* Copies the front of the text of a code that has room, and answers how many bytes the whole text has, in UTF-8 and with no 0 at its end:
  * none where the number is no code. It is a clause that begins small and has no full stop. */
 KIT_CALL size_t kit_code_text(int32_t code, uint8_t *into, size_t room);
+
+/* The version of the library as a text, which also says where it was made without its proofs: "0.1.0, not proved". */
+static inline const char *kit_version_text(void) {
+    return kit_version() & KIT_NOT_PROVED ? KIT_VERSION_TEXT ", not proved" : KIT_VERSION_TEXT;
+}
 
 /* Plans: instruments and views, numbered from 0 in the order in which they are added, and what streams they come to. */
 

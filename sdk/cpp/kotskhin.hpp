@@ -13,4 +13,5 @@
 #include "kotskhin/plan.hpp"
 #include "kotskhin/rows.hpp"
 #include "kotskhin/streams.hpp"
+#include "kotskhin/version.hpp"
 #include "kotskhin/writer.hpp"

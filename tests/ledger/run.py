@@ -11,6 +11,7 @@ sys.path.insert(0, str(pathlib.Path(__file__).resolve().parents[1] / "gate"))
 import checks
 import counts
 import known
+import wholes
 from known import BEFORE, CHANGED, KNOWN
 
 SOURCE = """\
@@ -67,6 +68,9 @@ class Crate:
 
     def below(self):
         return [*self.deps]
+
+    def is_tested(self):
+        return self.name == "high"
 
     def write(self, path, text):
         pathlib.Path(self.folder, path).write_text(text, encoding="utf-8")
@@ -247,7 +251,7 @@ def main():
         trial.leaving()
         trial.toolchains()
         trial.merging(f"{top}/other.txt")
-        for what, is_so in counts.all_of(f"{top}/counted"):
+        for what, is_so in [*counts.all_of(f"{top}/counted"), *wholes.all_of(f"{top}/whole", trial.crates)]:
             trial.says(what, is_so)
     book = known.Known()
     for fault in trial.faults:

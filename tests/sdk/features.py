@@ -26,9 +26,8 @@ WRAPPERS = {"C++": "cpp/**/*.hpp", "Rust": "rust/kotskhin/src/**/*.rs", "Go": "g
 MADE = {"C++": r"\b{}\b", "Rust": r"\b{}\b", "Go": r"\bC\.{}\(", "Python": r"[\". ]{}\b"}
 # Calls that the wrapper of a language does not make, and why not.
 WITHOUT = {
-    ("Go", "kit_version"): "cgo compiles it with the header of the library that it links",
-    ("C++", "kit_version"): "it is a header, compiled with that of the library",
-    ("Rust", "kit_version"): "kotskhin-sys tells the version of the header that it was made with",
+    ("Go", "kit_version"): "kit_version_text of the header calls it",
+    ("C++", "kit_version"): "kit_version_text of the header calls it",
     ("Go", "kit_code_text"): "the texts stand in declared.go, which is made",
 }
 CASES = pathlib.Path(__file__).resolve().parent / "cases.json"

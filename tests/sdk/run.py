@@ -321,6 +321,12 @@ class Run:
         """What sdk/package/make packs, unpacked into a fresh folder."""
         self.run("Package: two commands in each language", sys.executable, "-B", HERE / "package" / "run.py", self.kit)
 
+    def quick(self):
+        """A library that is not proved says so, and is never released; sdk/build --quick makes one where the gate proves all."""
+        built = ["--quick"] if os.environ.get("GATE_WHOLE", "") not in ("", "0") else []
+        self.run("Quick: the version says what is not proved, and no release is made of it", sys.executable, "-B", HERE / "quick.py", self.kit,
+                 *built, env={**os.environ, "GOCACHE": f"{self.room}/go"})
+
     def bugs(self):
         """Bugs of the wrappers, each brought back."""
         self.run("Bugs brought back: a test sees each", sys.executable, "-B", HERE / "bugs.py", self.kit,
@@ -366,7 +372,7 @@ def main():
             return 1
         run = Run(kit, room)
         in_c, others = (run.c, run.watched, run.shared), (run.cpp, run.rust, run.pipe, run.go, run.python)
-        for tried in (run.lacking, *in_c, *others, run.bugs, run.package, run.documented):
+        for tried in (run.lacking, *in_c, *others, run.bugs, run.package, run.quick, run.documented):
             try:
                 tried()
             except there.Lacking as fault:

@@ -14,7 +14,7 @@ from kotskhin.errors import *  # noqa: F403 (each refusal by its name)
 from kotskhin.export import Export, ExportHead
 from kotskhin.gateway import OPENMETRICS_TYPE, PROMETHEUS_TYPE, Ask, Gateway, Taking
 from kotskhin.incarnations import Incarnation
-from kotskhin.constants import code_text, default_bounds
+from kotskhin.constants import code_text, default_bounds, version
 from kotskhin.message import Envelope, Message
 from kotskhin.plan import COUNTER, DEFAULT_LIMIT, GAUGE, HISTOGRAM, UP_DOWN, Aggregation, Instrument, Kind, Plan
 from kotskhin.plan import Shape, Stream, Streams, View
@@ -24,8 +24,8 @@ from kotskhin.writer import Recorder, Seat, Taken, Writer, unique_instance
 __version__ = ".".join(str(VERSION >> shift & 255) for shift in (16, 8, 0))
 __all__ = [
     "CODES", "VERSION", "Archive", "Attributes", "Pairs", "Value", "Export", "ExportHead", "Ask", "Gateway", "Incarnation", "Row", "Rows",
-    "OPENMETRICS_TYPE", "PROMETHEUS_TYPE", "Taking", "code_text", "default_bounds", "Envelope", "Message", "COUNTER", "UP_DOWN", "GAUGE",
-    "HISTOGRAM", "DEFAULT_LIMIT", "Aggregation", "Instrument", "Kind", "Plan", "Shape", "Stream", "Streams", "View",
+    "OPENMETRICS_TYPE", "PROMETHEUS_TYPE", "Taking", "code_text", "default_bounds", "version", "Envelope", "Message", "COUNTER", "UP_DOWN",
+    "GAUGE", "HISTOGRAM", "DEFAULT_LIMIT", "Aggregation", "Instrument", "Kind", "Plan", "Shape", "Stream", "Streams", "View",
     "Recorder", "Seat", "Taken", "Writer", "unique_instance",
 ]
 __all__ += errors.__all__

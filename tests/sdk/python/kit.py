@@ -369,7 +369,9 @@ class Declared(unittest.TestCase):
     """What is declared is what the library says."""
 
     def test_version(self):
-        self.assertEqual(kotskhin.calls.kit_version(), kotskhin.VERSION)
+        told, more = kotskhin.calls.kit_version(), kotskhin.library.NOT_PROVED
+        self.assertIn(told, (kotskhin.VERSION, kotskhin.VERSION + more))
+        self.assertEqual(kotskhin.version(), kotskhin.__version__ + ", not proved" * (told != kotskhin.VERSION))
 
     def test_codes(self):
         self.assertEqual([kotskhin.code_text(number) for _, number, _, _ in CODES], [says for _, _, says, _ in CODES])

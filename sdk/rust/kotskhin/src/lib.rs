@@ -44,6 +44,7 @@ mod recorder;
 mod rows;
 mod seat;
 mod streams;
+mod version;
 mod view;
 mod writer;
 
@@ -61,5 +62,6 @@ pub use recorder::{Recorder, Taken};
 pub use rows::{Row, Rows, Total};
 pub use seat::Seat;
 pub use streams::{Shape, Stream, Streams};
+pub use version::version;
 pub use view::{Aggregation, View, Views};
 pub use writer::{HeldNumber, Writer, unique_instance};
