@@ -24,11 +24,15 @@ module _ (p : Planned) (a : AttrSet) (v : ℤ) (ss : List Stored) (feed : Feed) 
   fits = subst (AreFeeds (length ss)) is feeds
 
   -- what stands there in its place is followed by the other feeds
-  pub rest-fits : (q : Stored) → AreFeeds (length (set ss feed.stream q)) rest
+  rest-fits : (q : Stored) → AreFeeds (length (set ss feed.stream q)) rest
   rest-fits q = subst (λ (n : ℕ). AreFeeds n rest) (sym (length-set ss feed.stream q)) fits.2
 
-  pub rest-sound : (q : Stored) → q.entries ≡ old.entries → AllSound p.streams (entries_of ss) → AllSound p.streams (entries_of (set ss feed.stream q))
+  rest-sound : (q : Stored) → q.entries ≡ old.entries → AllSound p.streams (entries_of ss) → AllSound p.streams (entries_of (set ss feed.stream q))
   rest-sound q same sound = subst (AllSound p.streams) (sym (same_entries ss feed.stream q old was same)) sound
+
+  pub rest-ready : (q : Stored) → q.entries ≡ old.entries → AllSound p.streams (entries_of ss)
+      → AreFeeds (length (set ss feed.stream q)) rest × AllSound p.streams (entries_of (set ss feed.stream q))
+  rest-ready q same sound = (rest-fits q, rest-sound q same sound)
 
   module _ (limit : ℕ) (b : AttrSet) (found : Option ℕ) (is-limit : limit ≡ p.limit) (is-set : b ≡ kept feed.keep a)
       (finds : found ≡ position (set_eq (fed_set limit old.entries b)) (keys_of old.entries)) where

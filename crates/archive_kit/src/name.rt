@@ -44,7 +44,7 @@ fn name_of_pairs<'a>(
     third: &(Txt, AttrValue),
 ) -> Option<Told<'a>>
     ensures some { IfSome result (λ name. first.now ∷ second.now ∷ third.now ∷ [] ≡ name_attrs (name_in name)) }
-    ensures none { IfNone result ((writer : WriterId) (start : ℕ) → first.now ∷ second.now ∷ third.now ∷ [] ≢ incarnation_attrs writer start) }
+    ensures none { IfNone result ((id : WriterId) (start : ℕ) → first.now ∷ second.now ∷ third.now ∷ [] ≢ incarnation_attrs id start) }
 {
     let instance = text_under("instance", first)?;
     let service = text_under("service", second)?;

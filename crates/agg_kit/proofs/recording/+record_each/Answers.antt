@@ -10,7 +10,7 @@ use Rattle.agg_kit.specs.Sound.{AreSound}
 use Rattle.agg_kit.specs.Steps.{Stored, fed_set}
 use Rattle.agg_kit.specs.Tallies.{Points}
 use Rattle.agg_kit.specs.declared.fault.TallyFault.TheVariants as faults
-use Rattle.agg_kit.proofs.OneFeed.{fits, rest-fits, rest-sound, absent-first, absent-early, absent-held, there-within, there-added, there-out, there-first, there-early, stays, still}
+use Rattle.agg_kit.proofs.OneFeed.{fits, rest-ready, absent-first, absent-early, absent-held, there-within, there-added, there-out, there-first, there-early, stays, still}
 use Rattle.agg_kit.proofs.Records.{set-other, same_entries, entries-read, stored-length, sound-shape, recorded-here, early-copied, if_err_so, on_err, on_err_map, step-along, if_err}
 use Rattle.agg_kit.proofs.Steps.{absent}
 use Rattle.agg_kit.proofs.recording.+record_each.Goals as goal
@@ -29,12 +29,8 @@ record_each-requires t c = (
   search rules,
   (
     c.requires.overflow,
-    (
-      rest-fits c.args.plan.now c.args.attrs.now c.args.value c.args.series.now.items c.in-Some.feed.now c.in-Some.rest.now c.args.feeds.now c.in-Some.ensures.cases.0 c.requires.feeds
-          c.index_mut-points.result.now c.index_mut-points.ensures.value c.fresh.new.self,
-      rest-sound c.args.plan.now c.args.attrs.now c.args.value c.args.series.now.items c.in-Some.feed.now c.in-Some.rest.now c.args.feeds.now c.in-Some.ensures.cases.0 c.requires.feeds
-          c.index_mut-points.result.now c.index_mut-points.ensures.value c.fresh.new.self c.fresh.ensures.entries c.requires.sound,
-    ),
+    rest-ready c.args.plan.now c.args.attrs.now c.args.value c.args.series.now.items c.in-Some.feed.now c.in-Some.rest.now c.args.feeds.now c.in-Some.ensures.cases.0 c.requires.feeds
+        c.index_mut-points.result.now c.index_mut-points.ensures.value c.fresh.new.self c.fresh.ensures.entries c.requires.sound,
   ),
 )
 
@@ -43,12 +39,8 @@ record_each-requires-in_default-find t c = (
   search rules,
   (
     c.requires.overflow,
-    (
-      rest-fits c.args.plan.now c.args.attrs.now c.args.value c.args.series.now.items c.in-Some.feed.now c.in-Some.rest.now c.args.feeds.now c.in-Some.ensures.cases.0 c.requires.feeds
-          c.index_mut-points.result.now c.index_mut-points.ensures.value c.fresh.new.self,
-      rest-sound c.args.plan.now c.args.attrs.now c.args.value c.args.series.now.items c.in-Some.feed.now c.in-Some.rest.now c.args.feeds.now c.in-Some.ensures.cases.0 c.requires.feeds
-          c.index_mut-points.result.now c.index_mut-points.ensures.value c.fresh.new.self c.fresh.ensures.entries c.requires.sound,
-    ),
+    rest-ready c.args.plan.now c.args.attrs.now c.args.value c.args.series.now.items c.in-Some.feed.now c.in-Some.rest.now c.args.feeds.now c.in-Some.ensures.cases.0 c.requires.feeds
+        c.index_mut-points.result.now c.index_mut-points.ensures.value c.fresh.new.self c.fresh.ensures.entries c.requires.sound,
   ),
 )
 

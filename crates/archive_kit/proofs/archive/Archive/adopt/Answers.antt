@@ -1,16 +1,23 @@
-use Rattle.std.proofs.Common.{◌≡◌, Some, List, ap, sym, ◌∙◌}
+use Rattle.std.proofs.Common.{◌≡◌, ℕ, Some, None, List, ap, sym, ◌∙◌}
 use Rattle.std.proofs.lemmas.Result.{on_ok_weaker}
+use Rattle.attr_kit.specs.Refusing.{first}
 use Rattle.gateway_kit.specs.GatewayState.{GatewayState}
 use Rattle.gateway_kit.specs.Queries.{incarnation_points, part_points}
 use Rattle.point_kit.specs.declared.cell.Cell.{Cell}
 use Rattle.point_kit.specs.declared.key.Key.{Key}
 use Rattle.point_kit.specs.declared.payload.Payload.{Payload}
-use Rattle.archive_kit.specs.Archive.{adopt_fault, adopted, early_fault}
+use Rattle.point_kit.specs.declared.writer_id.WriterId.{WriterId}
+use Rattle.archive_kit.specs.Archive.{ArchiveState, adopt_fault, adopted, early_fault, late_faults}
 use Rattle.archive_kit.specs.declared.adopt_fault.AdoptFault.{AdoptFault}
 use Rattle.archive_kit.proofs.Kept.{early_first, early_new, early_plain, late_first}
 use Rattle.archive_kit.proofs.Refused.{named_refused}
 use Rattle.archive_kit.proofs.Steps.{if_err}
 use Rattle.archive_kit.proofs.archive.Archive.adopt.Goals as goal
+
+-- what refuses the points that a gateway holds, once none of the early reasons does
+late-of : (a : ArchiveState) (w : WriterId) (start : ℕ) (cells held : List (Key × Cell Payload)) → cells ≡ held → early_fault a w start cells ≡ None
+    → adopt_fault a w start held ≡ first (late_faults a w start cells)
+late-of a w start cells held is none = ap (λ (l : List (Key × Cell Payload)). adopt_fault a w start l) (sym is) ∙ late_first a w start cells none
 
 pub returns-in-Some-clause-err : goal.returns-in-Some-clause-err
 returns-in-Some-clause-err c = λ other.
@@ -33,13 +40,11 @@ add-requires-clause-fresh c = early_new c.args.self.now c.args.writer.now c.args
 
 pub returns-in-None-clause-ok : goal.returns-in-None-clause-ok
 returns-in-None-clause-ok c =
-    let a = c.args.self.now in
     let w = c.args.writer.now in
     let s = c.args.start in
     let cells = part_points w s c.part-items.result.now in
     let held : cells ≡ incarnation_points w s c.args.keeper.now.gateway.points = c.part-items.ensures.value ∙ ap (λ (g : GatewayState). incarnation_points w s g.points) c.gateway.ensures.value in
-    let late = late_first a w s cells (sym c.early_fault.ensures.value ∙ c.in-None.is) in
-    on_ok_weaker c.add.result (λ e. ap (λ (l : List (Key × Cell Payload)). adopt_fault a w s l) (sym held) ∙ late ∙ e) c.add.ensures.ok
+    on_ok_weaker c.add.result (λ e. late-of c.args.self.now w s cells _ held (sym c.early_fault.ensures.value ∙ c.in-None.is) ∙ e) c.add.ensures.ok
 
 pub returns-in-None-clause-value : goal.returns-in-None-clause-value
 returns-in-None-clause-value c =
@@ -50,13 +55,11 @@ returns-in-None-clause-value c =
 
 pub returns-in-None-clause-err : goal.returns-in-None-clause-err
 returns-in-None-clause-err c =
-    let a = c.args.self.now in
     let w = c.args.writer.now in
     let s = c.args.start in
     let cells = part_points w s c.part-items.result.now in
     let held : cells ≡ incarnation_points w s c.args.keeper.now.gateway.points = c.part-items.ensures.value ∙ ap (λ (g : GatewayState). incarnation_points w s g.points) c.gateway.ensures.value in
-    let late = late_first a w s cells (sym c.early_fault.ensures.value ∙ c.in-None.is) in
-    if_err c.add.result (λ (f : AdoptFault) e other. ap (λ (l : List (Key × Cell Payload)). adopt_fault a w s l) (sym held) ∙ late ∙ e other) c.add.ensures.err
+    if_err c.add.result (λ (f : AdoptFault) e other. late-of c.args.self.now w s cells _ held (sym c.early_fault.ensures.value ∙ c.in-None.is) ∙ e other) c.add.ensures.err
 
 pub returns-in-None-clause-no_memory : goal.returns-in-None-clause-no_memory
 returns-in-None-clause-no_memory c =
