@@ -31,7 +31,7 @@ int main(int count, char **words) {
                 }
             });
         }
-        for (auto &it : hands) it.join();
+        for (auto &hand : hands) hand.join();
         kotskhin::Export made = provider.Collect();
         std::chrono::duration<double, std::nano> took = Clock::now() - began;
         double ran = 1e9 * (std::clock() - from) / CLOCKS_PER_SEC, recordings = double(threads) * TIMES;
