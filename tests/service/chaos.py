@@ -162,7 +162,7 @@ class Seed:
 
     def adopted(self):
         """How many lives have a tombstone."""
-        return (self.gateways[1].text("/metrics") or "").count("\nadopted_nanoseconds{")
+        return (self.gateways[1].text("/metrics?tombstones=true") or "").count("\nadopted_nanoseconds{")
 
     def differing(self):
         told = {it.number: (tables_of(it), it.json("/v1/peers")) for it in self.gateways.values()}

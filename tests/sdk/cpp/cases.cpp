@@ -332,7 +332,10 @@ class Run {
         std::optional<std::string> service;
         if (auto it = step.find("service")) service = text(*it);
         auto &gateway = the<Gateway>(step["of"]);
-        std::string page = step["format"].text == "openmetrics" ? gateway.openmetrics(service) : gateway.prometheus(service);
+        auto said = step.find("tombstones");
+        auto shown = said && said->text == "true" ? Tombstones::Shown : Tombstones::LeftOut;
+        bool is_openmetrics = step["format"].text == "openmetrics";
+        std::string page = is_openmetrics ? gateway.openmetrics(service, shown) : gateway.prometheus(service, shown);
         for (auto &it : step["has"].list) {
             if (("\n" + page).find("\n" + it.text + "\n") == std::string::npos) differs("the page has no " + it.text + ":\n" + page);
         }

@@ -206,7 +206,8 @@ class Run:
         return len(made)
 
     def page(self, it):
-        told = getattr(self.things[it["of"]], it["format"])(text(it["service"]) if "service" in it else None)
+        asked = {"tombstones": it["tombstones"]} if "tombstones" in it else {}
+        told = getattr(self.things[it["of"]], it["format"])(text(it["service"]) if "service" in it else None, **asked)
         if set(it["has"]) - set(told.splitlines()) or any(lacked in told for lacked in it["lacks"]):
             raise AssertionError(f"the page is {told!r}")
 

@@ -349,9 +349,13 @@ impl Run {
 
     fn page(&self, it: &Json) -> Answer {
         let service = it.find("service").map(text).transpose()?;
-        let page = the!(self, it.get("of"), Gateway, gateway => match it.get("format").text() {
-            "openmetrics" => gateway.openmetrics(service.as_deref()),
-            _ => gateway.prometheus(service.as_deref()),
+        let (format, service) = (it.get("format").text(), service.as_deref());
+        let tombstones = matches!(it.find("tombstones"), Some(Json::Truth(true)));
+        let page = the!(self, it.get("of"), Gateway, gateway => match (format, tombstones) {
+            ("openmetrics", false) => gateway.openmetrics(service),
+            ("openmetrics", true) => gateway.openmetrics_with_tombstones(service),
+            (_, false) => gateway.prometheus(service),
+            (_, true) => gateway.prometheus_with_tombstones(service),
         })?;
         let has = |line: &Json| page.lines().any(|it| it == line.text());
         let lacks = |text: &Json| !page.contains(text.text());

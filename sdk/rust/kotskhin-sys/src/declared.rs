@@ -480,6 +480,7 @@ unsafe extern "C" {
         only: bool,
         service: *const u8,
         service_len: usize,
+        tombstones: bool,
         text: *mut Text,
     ) -> i32;
     pub fn kit_gateway_prometheus(
@@ -487,6 +488,7 @@ unsafe extern "C" {
         only: bool,
         service: *const u8,
         service_len: usize,
+        tombstones: bool,
         text: *mut Text,
     ) -> i32;
     pub fn kit_gateway_open(
