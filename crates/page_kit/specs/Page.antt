@@ -77,9 +77,10 @@ abbrev pub is_left_in : Option (List ℕ) → Key → Bool
 is_left_in None key = true
 is_left_in (Some scope) key = not (bytes_eq key.stream.scope scope)
 
--- the cells that are left in
+-- the cells that are left in: all, where no scope is left out
 abbrev pub left_in : Option (List ℕ) → List KeyedCell → List KeyedCell
-left_in but cells = filter (λ e. is_left_in but e.0) cells
+left_in None cells = cells
+left_in (Some scope) cells = filter (λ e. is_left_in (Some scope) e.0) cells
 
 -- the page of cells: the families of the metrics that are shown, in the order of their names, and the kit's own
 unfoldable pub page : Format → List KeyedCell → List ℕ
