@@ -197,7 +197,7 @@ static bool is_live_shown(kit_gateway *gateway) {
     kit_text text = KIT_EMPTY;
     static char told[4096];
     size_t len = 0;
-    CHECK(!kit_gateway_prometheus(gateway, true, TEXT("shop"), &text) && !kit_text_copy(&text, (uint8_t *)told, sizeof told - 1, &len));
+    CHECK(!kit_gateway_prometheus(gateway, true, TEXT("shop"), false, &text) && !kit_text_copy(&text, (uint8_t *)told, sizeof told - 1, &len));
     CHECK(len < sizeof told);
     told[len] = 0;
     kit_text_free(&text);

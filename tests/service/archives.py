@@ -1,5 +1,5 @@
 """Archives in the service: workers come, end and are adopted. A Prometheus that scrapes meanwhile sees no reset and the true growth, and
-no tombstone by the rule of docs/use/SERVICE.md. The memory of a gateway through which many incarnations go stays as it is."""
+no tombstone. The memory of a gateway through which many incarnations go stays as it is."""
 import json
 import os
 import random
@@ -10,7 +10,6 @@ from fleet import Fault, Gateway, free_port, page_of, until
 from kotskhin import COUNTER, HISTOGRAM, UP_DOWN, Attributes, Plan, Writer, unique_instance
 from prometheus import running, samples_of
 
-PAGE = pathlib.Path(__file__).resolve().parents[2] / "docs" / "use" / "SERVICE.md"
 ADDRESS, SCOPE = "127.0.0.1", "service.test"
 PLAN = ((SCOPE, "requests", "1", COUNTER), (SCOPE, "open", "1", UP_DOWN), (SCOPE, "latency", "ms", HISTOGRAM))
 ROUTES = [f"/{number}" for number in range(40)]
