@@ -268,8 +268,8 @@ module _ {N : Type 0} (q : Rounding N Key WriterId Name Payload) (sound : IsSoun
     -- the row has the cells of its keys
     picked : w.1 ≡ filter (λ e. asks e.0) held
     picked =
-        let cells = left_in but (asked_cells service (state r ms)) in
-        its_row ∙ ap (filter of_labels) (metric_cells cells m (shown_metric cells m there)) ∙ filter_twice of_metric of_labels cells
+        let all = left_in but (asked_cells service (state r ms)) in
+        its_row ∙ ap (filter of_labels) (metric_cells all m (shown_metric all m there)) ∙ filter_twice of_metric of_labels all
         ∙ left but (λ e. of_metric e && of_labels e) (asked_cells service (state r ms)) ∙ served service (λ e. is_left_in but e.0 && (of_metric e && of_labels e))
       where
         left : (o : Option (List ℕ)) (p : KeyedCell → Bool) (cells : List KeyedCell) → filter p (left_in o cells) ≡ filter (λ e. is_left_in o e.0 && p e) cells

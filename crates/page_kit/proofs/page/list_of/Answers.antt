@@ -16,7 +16,7 @@ those_left_in (Some scope) es = refl
 
 pub loop-point-preserved : goal.loop-point-preserved
 loop-point-preserved c =
-    let but = option_map (λ (s : Bor (List ℕ)). s.now) c.loop-point.but in
+    let but = option_map (λ (s : Bor (List ℕ)). s.now) c.args.but in
     let old = c.loop-point.list.items in (
       tt,
       tt,
@@ -27,7 +27,7 @@ loop-point-preserved c =
 
 pub returns : goal.returns
 returns c =
-    let but = option_map (λ (s : Bor (List ℕ)). s.now) c.loop-point.but in
+    let but = option_map (λ (s : Bor (List ℕ)). s.now) c.args.but in
     sym (append-nil (cells c.loop-point.list.items))
     ∙ ap (λ (l : List KeyedCell). cells c.loop-point.list.items ++ filter (λ e. is_left_in but e.0) l) (sym c.in-None.ensures.steps.0)
     ∙ c.loop-point.invariant.2
