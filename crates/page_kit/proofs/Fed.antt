@@ -10,7 +10,6 @@ use Rattle.std.proofs.lemmas.Bool.{and_parts}
 use Rattle.std.proofs.lemmas.Int.{ints}
 use Rattle.std.proofs.lemmas.List.Sums.{sum_by-cons}
 use Rattle.std.proofs.lemmas.Slice.Eq.{bytes_eq-Decides}
-use Rattle.agg_kit.specs.Feeding.{fed}
 use Rattle.agg_kit.specs.Payloads as payloads
 use Rattle.gateway_kit.specs.Walks.{is_of}
 use Rattle.point_kit.specs.Orders.{bounds_of}
@@ -272,9 +271,9 @@ module _ {N : Type 0} (q : Rounding N Key WriterId Name Payload) (sound : IsSoun
         its_row ∙ ap (filter of_labels) (metric_cells all m (shown_metric all m there)) ∙ filter_twice of_metric of_labels all
         ∙ left but (λ e. of_metric e && of_labels e) (asked_cells service (state r ms)) ∙ served service (λ e. is_left_in but e.0 && (of_metric e && of_labels e))
       where
-        left : (o : Option (List ℕ)) (p : KeyedCell → Bool) (cells : List KeyedCell) → filter p (left_in o cells) ≡ filter (λ e. is_left_in o e.0 && p e) cells
-        left None p cells = refl
-        left (Some scope) p cells = filter_twice (λ (e : KeyedCell). is_left_in (Some scope) e.0) p cells
+        left : (o : Option (List ℕ)) (p : KeyedCell → Bool) (es : List KeyedCell) → filter p (left_in o es) ≡ filter (λ e. is_left_in o e.0 && p e) es
+        left None p es = refl
+        left (Some scope) p es = filter_twice (λ (e : KeyedCell). is_left_in (Some scope) e.0) p es
         served : (o : Option (List ℕ)) (p : KeyedCell → Bool) → filter p (asked_cells o (state r ms)) ≡ filter (λ e. is_asked o e.0 && p e) held
         served None p = refl
         served (Some t) p = filter_twice (λ (e : KeyedCell). is_of t e.0.writer) p held

@@ -1,5 +1,5 @@
 -- The numbers of a page's rows are those of what was recorded.
-use Rattle.std.proofs.Common.{◌≡◌, ℕ, ℤ, pos, ◌+◌, ◌+ℤ◌, not, Bool, true, false, cond, List, Option, refl, sym, ap, subst, ◌∙◌, arith}
+use Rattle.std.proofs.Common.{◌≡◌, ℕ, ℤ, pos, ◌+◌, ◌+ℤ◌, Bool, true, false, cond, List, Option, refl, sym, ap, subst, ◌∙◌, arith}
 use Rattle.std.specs.Prelude.{int_le}
 use Rattle.std.proofs.lemmas.Bool.{and_parts}
 use Rattle.agg_kit.specs.Entries.{Entry}
@@ -31,7 +31,6 @@ use Rattle.schedule_kit.proofs.Taking.{are_taken, taken_made, up_to_newest}
 use Rattle.page_kit.specs.Bounds.{buckets_in, count_up_to}
 use Rattle.page_kit.specs.Families.{Measured, shown_metrics}
 use Rattle.page_kit.specs.Metrics.{kind_of}
-use Rattle.page_kit.specs.Names.{same}
 use Rattle.page_kit.specs.Page.{asked_cells, left_in}
 use Rattle.page_kit.specs.Recorded.{IsRecorded, AreProper, NumbersAreRecorded, recordings, row_values}
 use Rattle.page_kit.specs.Rows.{rows}
