@@ -878,13 +878,14 @@ KIT_CHECKED int32_t kit_archive_read(KIT_READS kit_archive *archive, uint64_t *s
 KIT_CHECKED int32_t kit_export_otlp(KIT_READS kit_export *export_, kit_bytes *bytes, uint64_t *place);
 
 /* The page of what a gateway, which stays, holds, in OpenMetrics 1.0: where only is true, of one service alone, else of all: then the
- * service is not looked at. It answers a request that accepts application/openmetrics-text, with Content-Type:
- * application/openmetrics-text; version=1.0.0; charset=utf-8.
+ * service is not looked at. Only where tombstones is true it has a row for each tombstone, which tells whom an archive adopted; without
+ * them the families of the kit's own count none of them either. It answers a request that accepts application/openmetrics-text, with
+ * Content-Type: application/openmetrics-text; version=1.0.0; charset=utf-8.
  *
  * Refused, in this order: KIT_FULL; KIT_NOT_TEXT where the service is no UTF-8; KIT_NOTHING; KIT_NO_MEMORY. O(n log n) comparisons of
  * labels. */
 KIT_CHECKED int32_t kit_gateway_openmetrics(KIT_READS kit_gateway *gateway, bool only, const uint8_t *service, size_t service_len,
-                                            kit_text *text);
+                                            bool tombstones, kit_text *text);
 
 /* The same page in Prometheus' text format 0.0.4, with Content-Type: text/plain; version=0.0.4; charset=utf-8: for all other requests, for
  * a Pushgateway, and for files.
@@ -892,7 +893,7 @@ KIT_CHECKED int32_t kit_gateway_openmetrics(KIT_READS kit_gateway *gateway, bool
  * Refused, in this order: KIT_FULL; KIT_NOT_TEXT where the service is no UTF-8; KIT_NOTHING; KIT_NO_MEMORY. O(n log n) comparisons of
  * labels. */
 KIT_CHECKED int32_t kit_gateway_prometheus(KIT_READS kit_gateway *gateway, bool only, const uint8_t *service, size_t service_len,
-                                           kit_text *text);
+                                           bool tombstones, kit_text *text);
 
 /* The exports that the body of a POST to /v1/metrics brings (OTLP, with Content-Type: application/x-protobuf). Who made the bytes is not
  * known here: of whom each export is, kit_export_read and kit_export_service tell.

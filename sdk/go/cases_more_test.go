@@ -193,9 +193,13 @@ func (r *run) page(s step) error {
 		all, of = gateway.Prometheus, gateway.PrometheusOf
 	}
 	if service, ok := s["service"]; ok {
-		all = func() (string, error) { return of(text_(service)) }
+		all = func(options ...PageOption) (string, error) { return of(text_(service), options...) }
 	}
-	told, err := all()
+	var options []PageOption
+	if s["tombstones"] == true {
+		options = append(options, WithTombstones())
+	}
+	told, err := all(options...)
 	for _, line := range s["has"].([]any) {
 		if err == nil && !strings.Contains("\n"+told, "\n"+line.(string)+"\n") {
 			return fmt.Errorf("%q is not in %q", line, told)

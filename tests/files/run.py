@@ -241,7 +241,8 @@ def archives(program, folder):
         yield f"shown of {' '.join(files)}", differs(ran(program, folder, [*ASK, *files]), (0, TABLE % 10, b""))
     status, page, said = ran(program, folder, ["expose", *workers, "new.ktsk"])
     once = page.count(b"sales_total{") == 2 and b'item="tea",otel_scope_name="app",service_name="shop"} 10' in page
-    yield "a page of them", "" if (status, said) == (0, b"") and once else f"status {status}, wrote {page!r}"
+    bare = b"kotskhin.archive" not in page and b"\nkotskhin_keys 2\n" in page
+    yield "a page of them", "" if (status, said) == (0, b"") and once and bare else f"status {status}, wrote {page!r}"
     state = kept.message(0, 0, [
         (ARCHIVE, 1000, SALES, MILK, 2000, 3), (ARCHIVE, 1000, SALES, TEA, 2000, 10),
         (ARCHIVE, 1000, TOMBS, OF_SHOP[1], 2000, 200), (ARCHIVE, 1000, TOMBS, OF_SECOND[1], 2000, 600),

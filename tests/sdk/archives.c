@@ -140,6 +140,23 @@ static void exported(kit_archive *archive, kit_gateway *gateway) {
     kit_export_free(&made), kit_export_free(&again);
 }
 
+/* A gateway's page tells so many keys in either format, and has tombstones where they are asked for alone. */
+static bool shows(kit_gateway *gateway, bool tombstones, const char *keys) {
+    static char page[4096];
+    kit_text texts[2] = {KIT_EMPTY, KIT_EMPTY};
+    bool fits = true;
+    CHECK(!kit_gateway_openmetrics(gateway, false, TEXT(""), tombstones, &texts[0]));
+    CHECK(!kit_gateway_prometheus(gateway, true, TEXT("shop"), tombstones, &texts[1]));
+    for (size_t i = 0; i < 2; i++) {
+        size_t len = 0;
+        CHECK(!kit_text_copy(&texts[i], (uint8_t *)page, sizeof page - 1, &len) && len < sizeof page);
+        page[len] = 0;
+        fits = fits && strstr(page, keys) && tombstones == !!strstr(page, "kotskhin.archive");
+        kit_text_free(&texts[i]);
+    }
+    return fits;
+}
+
 /* What an archive exported hides what it adopted from whoever is told of it later, by a message, a merge or bytes. */
 static void told_of(kit_gateway *gateway) {
     kit_gateway others[3] = {KIT_EMPTY, KIT_EMPTY, KIT_EMPTY};
@@ -180,7 +197,7 @@ static bool is_live_shown(kit_gateway *gateway) {
     kit_text text = KIT_EMPTY;
     static char told[4096];
     size_t len = 0;
-    CHECK(!kit_gateway_prometheus(gateway, true, TEXT("shop"), &text) && !kit_text_copy(&text, (uint8_t *)told, sizeof told - 1, &len));
+    CHECK(!kit_gateway_prometheus(gateway, true, TEXT("shop"), false, &text) && !kit_text_copy(&text, (uint8_t *)told, sizeof told - 1, &len));
     CHECK(len < sizeof told);
     told[len] = 0;
     kit_text_free(&text);
@@ -228,6 +245,7 @@ int main(void) {
     refused_of(&archive);
     limited(&gateway);
     exported(&archive, &gateway);
+    CHECK(shows(&gateway, false, "\nkotskhin_keys 3\n") && shows(&gateway, true, "\nkotskhin_keys 7\n"));
     told_of(&gateway);
     sealed(&archive, &gateway);
     shown(1, true), shown(1000, false);

@@ -238,15 +238,15 @@ static const char *const OF_NONE[] = {"kotskhin_keys 0\n", "# EOF\n", NULL};
 static void pages(kit_gateway *gateway) {
     kit_gateway nothing = KIT_EMPTY;
     kit_text text = KIT_EMPTY, other = KIT_EMPTY;
-    CHECK(kit_gateway_openmetrics(&nothing, false, TEXT(""), &text) == KIT_NOTHING && !text.handle.full);
-    CHECK(kit_gateway_prometheus(&nothing, false, TEXT(""), &text) == KIT_NOTHING && !text.handle.full);
-    CHECK(kit_gateway_openmetrics(gateway, true, TEXT("\xff"), &text) == KIT_NOT_TEXT && !text.handle.full);
-    CHECK(kit_gateway_prometheus(gateway, true, TEXT("\xff"), &text) == KIT_NOT_TEXT && !text.handle.full);
-    EACH_GROWTH(kit_gateway_prometheus(gateway, true, TEXT("shop"), &other), !other.handle.full && gateway->handle.full);
-    EACH_GROWTH(kit_gateway_openmetrics(gateway, true, TEXT("shop"), &text), !text.handle.full && gateway->handle.full);
-    CHECK(kit_gateway_openmetrics(gateway, false, TEXT(""), &text) == KIT_FULL && kit_gateway_prometheus(gateway, false, TEXT(""), &text) == KIT_FULL);
+    CHECK(kit_gateway_openmetrics(&nothing, false, TEXT(""), false, &text) == KIT_NOTHING && !text.handle.full);
+    CHECK(kit_gateway_prometheus(&nothing, false, TEXT(""), false, &text) == KIT_NOTHING && !text.handle.full);
+    CHECK(kit_gateway_openmetrics(gateway, true, TEXT("\xff"), false, &text) == KIT_NOT_TEXT && !text.handle.full);
+    CHECK(kit_gateway_prometheus(gateway, true, TEXT("\xff"), false, &text) == KIT_NOT_TEXT && !text.handle.full);
+    EACH_GROWTH(kit_gateway_prometheus(gateway, true, TEXT("shop"), false, &other), !other.handle.full && gateway->handle.full);
+    EACH_GROWTH(kit_gateway_openmetrics(gateway, true, TEXT("shop"), false, &text), !text.handle.full && gateway->handle.full);
+    CHECK(kit_gateway_openmetrics(gateway, false, TEXT(""), false, &text) == KIT_FULL && kit_gateway_prometheus(gateway, false, TEXT(""), false, &text) == KIT_FULL);
     CHECK(has(&text, OF_SHOP) && has(&other, AS_TEXT));
-    CHECK(!kit_gateway_openmetrics(gateway, false, TEXT(""), &text) && !kit_gateway_openmetrics(gateway, true, TEXT("none"), &other));
+    CHECK(!kit_gateway_openmetrics(gateway, false, TEXT(""), false, &text) && !kit_gateway_openmetrics(gateway, true, TEXT("none"), false, &other));
     CHECK(has(&text, OF_ALL) && has(&other, OF_NONE));
 }
 

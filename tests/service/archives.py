@@ -1,10 +1,8 @@
 """Archives in the service: workers come, end and are adopted. A Prometheus that scrapes meanwhile sees no reset and the true growth, and
-no tombstone by the rule of docs/use/SERVICE.md. The memory of a gateway through which many incarnations go stays as it is."""
+no tombstone. The memory of a gateway through which many incarnations go stays as it is."""
 import json
 import os
-import pathlib
 import random
-import re
 import threading
 import time
 
@@ -12,7 +10,6 @@ from fleet import Fault, Gateway, free_port, page_of, until
 from kotskhin import COUNTER, HISTOGRAM, UP_DOWN, Attributes, Plan, Writer, unique_instance
 from prometheus import running, samples_of
 
-PAGE = pathlib.Path(__file__).resolve().parents[2] / "docs" / "use" / "SERVICE.md"
 ADDRESS, SCOPE = "127.0.0.1", "service.test"
 PLAN = ((SCOPE, "requests", "1", COUNTER), (SCOPE, "open", "1", UP_DOWN), (SCOPE, "latency", "ms", HISTOGRAM))
 ROUTES = [f"/{number}" for number in range(40)]
@@ -21,7 +18,7 @@ ARCHIVES = ("--archive", "shop", "--archive-after", "1s", "--archive-every", "25
 GOSSIP = ("--gossip-interval", "100ms", "--gossip-longest-pause", "500ms")
 WORKERS, SECONDS, SCRAPES, AT_A_TIME = 4, 20, "1s", 20
 # Of the soak: points of an incarnation, what a gateway may hold beside tombstones, and how much its memory may grow once a quarter is
-# through, also by each tombstone: that stands on pages, too.
+# through, also by each tombstone.
 POINTS, MOST_POINTS, MOST_GROWTH, EACH = 200, 50_000, 16 << 20, 4096
 AT_ONCE = 100
 
@@ -99,13 +96,9 @@ def kept(page):
     return {at: value for at, value in samples_of(page).items() if at[0] in ("requests_total", "open", "latency_milliseconds_sum")}
 
 
-def without_tombstones(gateway):
-    """What Prometheus is to keep of a page, which has tombstones."""
-    samples = samples_of(page_of(gateway))
-    left = {at: value for at, value in samples.items() if at[0] != "adopted_nanoseconds"}
-    if len(left) == len(samples):
-        raise Fault(f"gateway {gateway.number} shows no tombstone")
-    return left
+def tombstones_of(gateway, asked):
+    """How many tombstones stand on a page that is asked for so."""
+    return sum(at[0] == "adopted_nanoseconds" for at in samples_of(gateway.text("/metrics" + asked) or ""))
 
 
 class Scraped:
@@ -125,8 +118,7 @@ class Scraped:
         try:
             until(lambda: all(gateway.is_ready() for gateway in self.gateways), lambda: f"they are not ready\n{self.gateways[0].tail()}")
             targets = [f"{ADDRESS}:{gateway.port}" for gateway in self.gateways]
-            rule = re.search(r"^```yaml\n(metric_relabel_configs:.*?)^```$", PAGE.read_text(encoding="utf-8"), re.M | re.S)[1]
-            with running(self.room / "archives", targets, port=free_port(), every=SCRAPES, more=rule) as prometheus:
+            with running(self.room / "archives", targets, port=free_port(), every=SCRAPES) as prometheus:
                 return self.ran(prometheus)
         finally:
             for gateway in self.gateways:
@@ -152,6 +144,9 @@ class Scraped:
             until(lambda: figure(gateway, "held_points") == points, lambda: f"not all is forgotten: {figure(gateway, 'held_points')}, {points}")
             if kept(page_of(gateway)) != wanted:
                 raise Fault(f"gateway {gateway.number} does not show what was counted\n{gateway.tail()}")
+            found = [tombstones_of(gateway, asked) for asked in ("", "?tombstones=false", "?tombstones=true")]
+            if found != [0, 0, lives + 1]:
+                raise Fault(f"gateway {gateway.number} shows {found} tombstones of {lives + 1}")
         self.late(workers[0].last, wanted)
         self.hold(prometheus, wanted)
         late, came = (sum(getattr(worker, what) for worker in workers) for what in ("late", "points"))
@@ -181,7 +176,7 @@ class Scraped:
         names = ("requests_total", "latency_milliseconds_count", "latency_milliseconds_sum", "latency_milliseconds_bucket")
         for gateway in self.gateways:
             target = f"{ADDRESS}:{gateway.port}"
-            until(lambda: prometheus.page_of(target) == without_tombstones(gateway), f"Prometheus does not keep the page of {target}")
+            until(lambda: prometheus.page_of(target) == samples_of(page_of(gateway)), f"Prometheus does not keep the page of {target}")
         resets = {value for name in names for _, value in prometheus.ask(f"resets({name}[10m])")}
         scrapes = min(value for _, value in prometheus.ask("count_over_time(requests_total[10m])"))
         if resets != {0} or scrapes < 5:

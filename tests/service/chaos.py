@@ -165,7 +165,7 @@ class Seed:
 
     def adopted(self):
         """How many lives have a tombstone."""
-        return (self.gateways[1].text("/metrics") or "").count("\nadopted_nanoseconds{")
+        return (self.gateways[1].text("/metrics?tombstones=true") or "").count("\nadopted_nanoseconds{")
 
     def differing(self):
         told = {gateway.number: (tables_of(gateway), gateway.json("/v1/peers")) for gateway in self.gateways.values()}

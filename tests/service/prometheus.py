@@ -3,7 +3,6 @@ import contextlib
 import json
 import re
 import subprocess
-import textwrap
 import urllib.parse
 
 from fleet import Fault, asked, until
@@ -51,15 +50,14 @@ class Prometheus:
 
 
 @contextlib.contextmanager
-def running(folder, targets, address="127.0.0.1", port=9090, every="2s", more="", rules=()):
-    """A Prometheus of these targets, with a folder of its own, with more lines of what is scraped, and with files of rules."""
+def running(folder, targets, address="127.0.0.1", port=9090, every="2s", rules=()):
+    """A Prometheus of these targets, with a folder of its own, and with files of rules."""
     folder.mkdir()
     listed = ", ".join(f"'{target}'" for target in targets)
     (folder / "prometheus.yml").write_text(
         f"global:\n  scrape_interval: {every}\n  scrape_timeout: {every}\n  evaluation_interval: {every}\n"
         f"rule_files: [{', '.join(map(repr, map(str, rules)))}]\n"
-        f"scrape_configs:\n  - job_name: gateways\n    static_configs:\n      - targets: [{listed}]\n"
-        + textwrap.indent(more, "    "),
+        f"scrape_configs:\n  - job_name: gateways\n    static_configs:\n      - targets: [{listed}]\n",
         encoding="utf-8",
     )
     command = ["prometheus", "--config.file=prometheus.yml", "--storage.tsdb.path=data", f"--web.listen-address={address}:{port}"]

@@ -18,7 +18,7 @@ use Rattle.archive_world_kit.proofs.Weighing.{archive_reads, weighed_added}
 use Rattle.gateway_kit.specs.Keys.{ItemKey}
 use Rattle.page_kit.specs.Bounds.{buckets_in, count_up_to}
 use Rattle.page_kit.specs.Families.{Measured, shown_metrics}
-use Rattle.page_kit.specs.Page.{asked_cells}
+use Rattle.page_kit.specs.Page.{asked_cells, left_in}
 use Rattle.page_kit.specs.Recorded.{IsRecorded, row_values}
 use Rattle.page_kit.specs.Rows.{rows}
 use Rattle.page_kit.specs.Totals.{count_in, sum_in}
@@ -192,13 +192,13 @@ module _ {N : Type 0} (h : History N) (sound : HasSoundRounds h) (told : HasIden
       entries_rest r.who adopted all_taken i.0 i.1
       ∙ ap (λ l. cond (adopted (r.who i.0) i.1) [] l) (sym (up_to_newest h.starts (deeds h.steps) (AtGateway g) i.0 i.1))
 
-  pub page_recorded : (service : Option (List ℕ)) (m : Measured) → In m (shown_metrics (asked_cells service (shown_by h g)))
-      → (w : _) → In w (rows m.1) → IsRecorded m w (row_values service m.0 w.0 (recordings_by a fed g))
-  page_recorded service m there w here =
-      subst (λ (E : ℕ × ℕ → List N). IsRecorded m w (row_values service m.0 w.0 (values_fed r E is fed))) (λ n i. its_entries i n)
+  pub page_recorded : (service but : Option (List ℕ)) (m : Measured) → In m (shown_metrics (left_in but (asked_cells service (shown_by h g))))
+      → (w : _) → In w (rows m.1) → IsRecorded m w (row_values service but m.0 w.0 (recordings_by a fed g))
+  page_recorded service but m there w here =
+      subst (λ (E : ℕ × ℕ → List N). IsRecorded m w (row_values service but m.0 w.0 (values_fed r E is fed))) (λ n i. its_entries i n)
       (are_recorded r sound (λ i start x. refl) ms
       (rest_taken r.who adopted all_taken (are_taken h.starts h.fits h.gateways r.who told (deeds h.steps) h.is.lawful (AtGateway g))) is
       (incarnations_once h.starts r.who told h.fits h.gateways (deeds h.steps) h.is.lawful)
       (λ m i. made_in h.starts h.fits h.gateways (deeds h.steps) h.is.lawful m (taken_made h.starts (deeds h.steps) (AtGateway g) m (filter-In (λ (m : Made N). not (adopted (r.who m.writer) m.start)) m all_taken i).0)) fed
       (λ i j v k. named i.0 (entries_taken ms i.0 i.1) v k) (λ i j x k. tells i.0 (entries_taken ms i.0 i.1) x k)
-      service m (subst (λ (p : Points). In m (shown_metrics (asked_cells service p))) same_state there) w here)
+      service but m (subst (λ (p : Points). In m (shown_metrics (left_in but (asked_cells service p)))) same_state there) w here)

@@ -12,7 +12,7 @@ use Rattle.gateway_kit.specs.Keys.{ItemKey}
 use Rattle.page_kit.specs.Bounds.{values_up_to}
 use Rattle.page_kit.specs.Families.{Measured, shown_metrics}
 use Rattle.page_kit.specs.Lines.{sample}
-use Rattle.page_kit.specs.Page.{asked_cells}
+use Rattle.page_kit.specs.Page.{asked_cells, left_in}
 use Rattle.page_kit.specs.Recorded.{AreNumbers, IsRecorded, goes_to, row_values}
 use Rattle.page_kit.specs.Rows.{bound_text, bucket, histogram, row, row_bounds, rows, samples}
 use Rattle.page_kit.specs.Totals.{KeyedCell, count_of, sum_of}
@@ -54,21 +54,21 @@ same_samples name labels m n cells theirs values (shapes.Histogram limits) adds 
     (subst (λ (bs : List ℤ). AreNumbers (kind_of (shapes.Histogram limits)) bs cells values) bounds mine) their
 
 module _ {N : Type 0} (h : History N) (sound : HasSoundRounds h) (told : HasIdentities h) (a : Archives h)
-    (fed : ℕ → List N → List (ItemKey × ℤ)) (feed : Feeds a fed) (proper : HasProperBounds a) (last : ℕ × ℕ → List N) (service : Option (List ℕ)) where
+    (fed : ℕ → List N → List (ItemKey × ℤ)) (feed : Feeds a fed) (proper : HasProperBounds a) (last : ℕ × ℕ → List N) (service but : Option (List ℕ)) where
   abbrev all_recorded : List (Key × ℤ)
   all_recorded = values_fed (rounding h.writing) last (workers a) fed
 
   pub page_unmoved : (g : ℕ) → AreLast a g last → (shape : Shape) (m : Measured) → m.0.kind ≡ kind_of shape
-      → In m (shown_metrics (asked_cells service (shown_by h g))) → (w : _) → In w (rows m.1) → IsRecorded m w (row_values service m.0 w.0 all_recorded)
+      → In m (shown_metrics (left_in but (asked_cells service (shown_by h g)))) → (w : _) → In w (rows m.1) → IsRecorded m w (row_values service but m.0 w.0 all_recorded)
   page_unmoved g are shape m kind there w here =
-      let known = page_recorded h sound told a g fed feed proper service m there w here in
-      let carry = numbers_carried h sound told a g fed feed proper last are (goes_to service m.0 w.0) (same_row service m.0 w.0) shape (row_bounds m.1 w.1) w.1 in record {
+      let known = page_recorded h sound told a g fed feed proper service but m there w here in
+      let carry = numbers_carried h sound told a g fed feed proper last are (goes_to service but m.0 w.0) (same_row service but m.0 w.0) shape (row_bounds m.1 w.1) w.1 in record {
         shown = known.shown;
-        numbers = subst (λ k. AreNumbers k (row_bounds m.1 w.1) w.1 (row_values service m.0 w.0 all_recorded)) (sym kind)
-            (carry (subst (λ k. AreNumbers k (row_bounds m.1 w.1) w.1 (row_values service m.0 w.0 (recordings_by a fed g))) kind known.numbers));
+        numbers = subst (λ k. AreNumbers k (row_bounds m.1 w.1) w.1 (row_values service but m.0 w.0 all_recorded)) (sym kind)
+            (carry (subst (λ k. AreNumbers k (row_bounds m.1 w.1) w.1 (row_values service but m.0 w.0 (recordings_by a fed g))) kind known.numbers));
       }
 
-  pub texts_alike : (g k : ℕ) → AreLast a g last → AreLast a k last → (shape : Shape) (m n : Measured) → OnBoth h g k service shape m n
+  pub texts_alike : (g k : ℕ) → AreLast a g last → AreLast a k last → (shape : Shape) (m n : Measured) → OnBoth h g k service but shape m n
       → (w : _) → In w (rows m.1) → (v : _) → In v (rows n.1) → w.0 ≡ v.0 → HaveOneBounds shape m n w.1 v.1
       → (name : List ℕ) → row m.0.kind name m.1 w ≡ row n.0.kind name n.1 v
   unfolding row
@@ -76,13 +76,13 @@ module _ {N : Type 0} (h : History N) (sound : HasSoundRounds h) (told : HasIden
       let kinds : m.0.kind ≡ n.0.kind = λ i. (on.metric i).kind in
       let here = page_unmoved g mine shape m on.kind on.here w w_there in
       let other = page_unmoved k theirs shape n (sym kinds ∙ on.kind) on.there v v_there in
-      let values : row_values service n.0 v.0 all_recorded ≡ row_values service m.0 w.0 all_recorded = sym (λ i. row_values service (on.metric i) (labels i) all_recorded) in
-      let of_mine = subst (λ k. AreNumbers k (row_bounds m.1 w.1) w.1 (row_values service m.0 w.0 all_recorded)) on.kind here.numbers in
-      let of_theirs = subst (λ k. AreNumbers k (row_bounds n.1 v.1) v.1 (row_values service m.0 w.0 all_recorded)) (sym kinds ∙ on.kind)
+      let values : row_values service but n.0 v.0 all_recorded ≡ row_values service but m.0 w.0 all_recorded = sym (λ i. row_values service but (on.metric i) (labels i) all_recorded) in
+      let of_mine = subst (λ k. AreNumbers k (row_bounds m.1 w.1) w.1 (row_values service but m.0 w.0 all_recorded)) on.kind here.numbers in
+      let of_theirs = subst (λ k. AreNumbers k (row_bounds n.1 v.1) v.1 (row_values service but m.0 w.0 all_recorded)) (sym kinds ∙ on.kind)
       (subst (λ (l : List ℤ). AreNumbers n.0.kind (row_bounds n.1 v.1) v.1 l) values other.numbers) in
       ap (λ b. if b then [] else samples m.0.kind name m.1 w.0 w.1) here.shown
       ∙ ap (λ k. samples k name m.1 w.0 w.1) on.kind
-      ∙ same_samples name w.0 m n w.1 v.1 (row_values service m.0 w.0 all_recorded) shape on.adds bounds of_mine of_theirs
+      ∙ same_samples name w.0 m n w.1 v.1 (row_values service but m.0 w.0 all_recorded) shape on.adds bounds of_mine of_theirs
       ∙ ap (λ k. samples k name n.1 w.0 v.1) (sym on.kind ∙ kinds)
       ∙ ap (λ l. samples n.0.kind name n.1 l v.1) labels
       ∙ sym (ap (λ b. if b then [] else samples n.0.kind name n.1 v.0 v.1) other.shown)

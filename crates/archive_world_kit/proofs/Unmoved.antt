@@ -27,6 +27,7 @@ use Rattle.page_kit.proofs.Fed.{fold_total, whole_sum}
 use Rattle.page_kit.specs.Families.{metric_cmp}
 use Rattle.page_kit.specs.Labels.{label_name, labels, labels_cmp, row_labels, value_text}
 use Rattle.page_kit.specs.Metrics.{kind_of, metric_of}
+use Rattle.page_kit.specs.Page.{is_left_in}
 use Rattle.page_kit.specs.Recorded.{AreNumbers, goes_to, is_asked}
 use Rattle.page_kit.specs.Bounds.{within_room}
 use Rattle.page_kit.specs.Totals.{KeyedCell}
@@ -67,9 +68,14 @@ same_asked : (service : Option (List ℕ)) → IsOfService (is_asked service)
 same_asked None v w one s t x = refl
 same_asked (Some service) v w one s t x = ap (λ (own : List ℕ). pointwise nat_eq own service) one
 
-pub same_row : (service : Option (List ℕ)) (m : _) (row : _) → IsOfService (goes_to service m row)
-same_row service m row v w one s t x n =
-    same_asked service v w one s t x n && (eq_by_cmp metric_cmp m (metric_of x.0) && eq_by_cmp labels_cmp row (same_labels v w one s t x n))
+same_left : (but : Option (List ℕ)) → IsOfService (is_left_in but)
+same_left None v w one s t x = refl
+same_left (Some scope) v w one s t x = refl
+
+pub same_row : (service but : Option (List ℕ)) (m : _) (row : _) → IsOfService (goes_to service but m row)
+same_row service but m row v w one s t x n =
+    same_asked service v w one s t x n
+    && (same_left but v w one s t x n && (eq_by_cmp metric_cmp m (metric_of x.0) && eq_by_cmp labels_cmp row (same_labels v w one s t x n)))
 
 module _ {V : Type 0} (zero : V) (plus : V → V → V) (laws : IsSum zero plus) (weigh : ℤ → V) where
   -- values that pass, each weighed

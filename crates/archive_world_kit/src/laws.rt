@@ -16,7 +16,7 @@ ghost use Rattle.archive_world_kit.specs.Steps.{History, HasIdentities, HasSound
 ghost use Rattle.gateway_kit.specs.Keys.{ItemKey, whole_key};
 ghost use Rattle.page_kit.specs.Families.{Measured, shown_metrics};
 ghost use Rattle.page_kit.specs.Metrics.{kind_of};
-ghost use Rattle.page_kit.specs.Page.{asked_cells};
+ghost use Rattle.page_kit.specs.Page.{asked_cells, left_in};
 ghost use Rattle.page_kit.specs.Recorded.{IsRecorded, row_values};
 ghost use Rattle.page_kit.specs.Rows.{row, rows};
 ghost use Rattle.point_kit.specs.declared.key.Key.{Key};
@@ -168,37 +168,37 @@ pub fn incarnations_are_adopted_once<N>()
     ensures sealed { (h : History N) (a : Archives h) (g : ℕ) (i j : ℕ × ℕ) → IsSealedBefore a g i j → AdoptApart a g i j }
 {}
 
-/// Where no two writers share an identity, archives among them, the numbers of each row of each family on the page of what a node shows
-/// are those of recordings: of each incarnation that was not adopted those up to its newest collection that the node took, and of an
-/// archive what it adopted. Every row is shown then. A keeper shows all that it holds, so this is its page. Gauges are not adopted, and
-/// of these nothing is said.
+/// Where no two writers share an identity, archives among them, the numbers of each row of each family on the page of what a node shows,
+/// whatever scope it leaves out, are those of recordings: of each incarnation that was not adopted those up to its newest collection that
+/// the node took, and of an archive what it adopted. Every row is shown then. A keeper shows all that it holds, so this is its page.
+/// Gauges are not adopted, and of these nothing is said.
 #[tactic(auto)]
 pub fn pages_count_adopted_once<N>()
     ensures { (h : History N) → HasSoundRounds h → HasIdentities h → (a : Archives h) → (g : ℕ)
         → (fed : ℕ → List N → List (ItemKey × ℤ)) → Feeds a fed → HasProperBounds a
-        → (service : Option (List ℕ)) (m : Measured) → In m (shown_metrics (asked_cells service (shown_by h g)))
+        → (service but : Option (List ℕ)) (m : Measured) → In m (shown_metrics (left_in but (asked_cells service (shown_by h g))))
         → (w : _) → In w (rows m.1)
-        → IsRecorded m w (row_values service m.0 w.0 (recordings_by a fed g)) }
+        → IsRecorded m w (row_values service but m.0 w.0 (recordings_by a fed g)) }
 {}
 
 /// Where besides none is adopted twice, and each adopted collection, as each newest one of what was not adopted, is that incarnation's
-/// last, the numbers of each row on a node's page are those of all that the workers recorded up to their last collections: as on the page
-/// of a gateway without any archive. A row that stands on the pages of two such nodes, one that heard of archives and one that did not,
-/// has the same text on both, in either format. Of a histogram that asks that both show the same bounds of it. Gauges are not adopted,
-/// and of these nothing is said; a tombstone is one.
+/// last, the numbers of each row on a node's page, whatever scope it leaves out, are those of all that the workers recorded up to their
+/// last collections: as on the page of a gateway without any archive. A row that stands on the pages of two such nodes, one that heard of
+/// archives and one that did not, has the same text on both, in either format. Of a histogram that asks that both show the same bounds of
+/// it. Gauges are not adopted, and of these nothing is said; a tombstone is one.
 #[tactic(auto)]
 pub fn archives_change_no_page<N>()
     ensures numbers { (h : History N) → HasSoundRounds h → HasIdentities h → (a : Archives h) → (g : ℕ)
         → (fed : ℕ → List N → List (ItemKey × ℤ)) → Feeds a fed → HasProperBounds a
         → (last : ℕ × ℕ → List N) → AreLast a g last
-        → (service : Option (List ℕ)) (shape : Shape) (m : Measured) → m.0.kind ≡ kind_of shape
-        → In m (shown_metrics (asked_cells service (shown_by h g)))
+        → (service but : Option (List ℕ)) (shape : Shape) (m : Measured) → m.0.kind ≡ kind_of shape
+        → In m (shown_metrics (left_in but (asked_cells service (shown_by h g))))
         → (w : _) → In w (rows m.1)
-        → IsRecorded m w (row_values service m.0 w.0 (values_fed (rounding h.writing) last (workers a) fed)) }
+        → IsRecorded m w (row_values service but m.0 w.0 (values_fed (rounding h.writing) last (workers a) fed)) }
     ensures text { (h : History N) → HasSoundRounds h → HasIdentities h → (a : Archives h) → (g k : ℕ)
         → (fed : ℕ → List N → List (ItemKey × ℤ)) → Feeds a fed → HasProperBounds a
         → (last : ℕ × ℕ → List N) → AreLast a g last → AreLast a k last
-        → (service : Option (List ℕ)) (shape : Shape) (m n : Measured) → OnBoth h g k service shape m n
+        → (service but : Option (List ℕ)) (shape : Shape) (m n : Measured) → OnBoth h g k service but shape m n
         → (w : _) → In w (rows m.1) → (v : _) → In v (rows n.1) → w.0 ≡ v.0 → HaveOneBounds shape m n w.1 v.1
         → (name : List ℕ) → row m.0.kind name m.1 w ≡ row n.0.kind name n.1 v }
 {}

@@ -214,7 +214,7 @@ impl World {
     }
 
     fn page(&self, keeper: usize) -> Result<Answer, LineFault> {
-        Ok(Answer::Lines(prometheus(self.alloc, self.keeper(keeper)?.gateway(), None)?))
+        Ok(Answer::Lines(prometheus(self.alloc, self.keeper(keeper)?.gateway(), None, None)?))
     }
 
     fn same(&self, keeper: usize, other: usize) -> Result<Answer, LineFault> {

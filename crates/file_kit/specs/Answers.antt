@@ -2,7 +2,8 @@
 use Rattle.std.specs.Prelude.{◌≡◌, ℕ, Bool, true, false, List, [], Option, Some, None, codes}
 use Rattle.std.specs.List.{list_any}
 use Rattle.std.specs.Option.{option_map}
-use Rattle.page_kit.specs.Page.{asked_cells, last_line, page}
+use Rattle.archive_kit.specs.Tombstones.{tombstones}
+use Rattle.page_kit.specs.Page.{asked_cells, last_line, left_in, page}
 use Rattle.point_kit.specs.Exports.{Points}
 use Rattle.point_kit.specs.declared.stream.Stream.{Stream}
 use Rattle.rollup_kit.specs.Rollups.{rollup_rows}
@@ -37,9 +38,10 @@ abbrev pub end_of : PageFormat → List ℕ
 end_of Prometheus = []
 end_of OpenMetrics = codes "# EOF\n"
 
--- a text is the page of points in the format whose pages end so, of a service where one is given
+-- a text is the page of points in the format whose pages end so, of a service where one is given, without tombstones
 abbrev pub IsPageOf : List ℕ → Option (List ℕ) → Points → List ℕ → Type 0
-IsPageOf end service points text = (format : _) × (last_line format ≡ end) × (text ≡ page format (asked_cells service points))
+IsPageOf end service points text =
+    (format : _) × (last_line format ≡ end) × (text ≡ page format (left_in (Some tombstones.scope) (asked_cells service points)))
 
 -- a text is the page of what files show
 abbrev pub IsPage : PageFormat → Option (List ℕ) → List (List ℕ) → List ℕ → Type 0

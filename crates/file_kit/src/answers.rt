@@ -5,6 +5,7 @@ ghost use Rattle.file_kit.specs.Answers.{AreOthers, IsPage, IsReport};
 ghost use Rattle.file_kit.specs.Contents.{HasContent, IsRefused};
 
 use crate::{FileFault, kept};
+use archive_kit::SCOPE;
 use attr_kit::{NoMemory, Txt};
 use gateway_kit::Gateway;
 use indexmap::IndexSet;
@@ -63,7 +64,7 @@ pub fn report(alloc: Global, ask: &Ask, files: &[Vec<u8>]) -> Result<Reported, F
     Ok(Reported { table, others })
 }
 
-/// The page of what files show: that of `page_kit`, of a service where one is given, else of all.
+/// The page of what files show, but for tombstones: that of `page_kit`, of a service where one is given, else of all.
 ///
 /// Refused as [`kept`] refuses, at its cost and that of `prometheus` or `openmetrics`.
 pub fn expose(
@@ -79,9 +80,10 @@ pub fn expose(
 {
     let keeper = kept(alloc, files)?;
     let gateway = keeper.gateway();
+    let but = Some(SCOPE);
     let page = match format {
-        PageFormat::Prometheus => prometheus(alloc, gateway, service)?,
-        PageFormat::OpenMetrics => openmetrics(alloc, gateway, service)?,
+        PageFormat::Prometheus => prometheus(alloc, gateway, service, but)?,
+        PageFormat::OpenMetrics => openmetrics(alloc, gateway, service, but)?,
     };
     Ok(page)
 }

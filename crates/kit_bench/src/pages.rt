@@ -13,7 +13,7 @@ const ROUNDS: u32 = 5;
 
 fn time_page(rt: &HostRuntime, gateway: &Gateway) -> anyhow::Result<Duration> {
     let start = Instant::now(rt)?;
-    let page = openmetrics(rt.alloc(), gateway, None)?;
+    let page = openmetrics(rt.alloc(), gateway, None, None)?;
     let took = start.elapsed(rt)?;
     drop(page);
     Ok(took)

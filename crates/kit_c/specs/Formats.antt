@@ -47,6 +47,11 @@ abbrev pub asked_service : Bool → List ℕ → Option (List ℕ)
 asked_service true service = Some service
 asked_service false service = None
 
+-- the scope that a page leaves out: that of tombstones, unless these are asked for
+abbrev pub left_out_scope : Bool → Option (List ℕ)
+left_out_scope true = None
+left_out_scope false = Some tombstones.scope
+
 -- why a handle that is to be filled gets no page of a service of what a gateway holds
 abbrev pub page_fault : Option (List ℕ) → List ℕ → Option GatewayState → Option Fault
 page_fault text service gateway = first (full_fault text ∷ text_fault service ∷ of_one gateway if_any ∷ [])

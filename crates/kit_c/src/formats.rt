@@ -3,11 +3,11 @@ ghost use Rattle.std.specs.Option.{option_map};
 ghost use Rattle.std.specs.Prelude.{◌≡◌, ◌≢◌, ◌∷◌, [], pos};
 ghost use Rattle.attr_kit.specs.Refusing.{first};
 ghost use Rattle.otlp_kit.specs.Request.{request};
-ghost use Rattle.page_kit.specs.Page.{asked_cells};
+ghost use Rattle.page_kit.specs.Page.{asked_cells, left_in};
 ghost use Rattle.page_kit.specs.Pages.{openmetrics_page, prometheus_page};
 ghost use Rattle.kit_c.specs.Calls.{code_for, full_fault, of_one};
 ghost use Rattle.kit_c.specs.Codes.{no_memory};
-ghost use Rattle.kit_c.specs.Formats.{asked_service, page_fault, request_fault};
+ghost use Rattle.kit_c.specs.Formats.{asked_service, left_out_scope, page_fault, request_fault};
 ghost use Rattle.kit_c.specs.Held.{bytes_of, export_of, gateway_of, node_of, text_of as text_in};
 ghost use Rattle.kit_c.specs.Places.{TellsPlace};
 
@@ -16,6 +16,7 @@ use crate::fault::{FULL, Fault, NO_MEMORY, NOTHING, WRONG_KIND, code_with_place}
 use crate::text::text_of;
 use crate::typed::{KitBytes, KitExport, KitGateway, KitText};
 use crate::with::{fill, or_code, with};
+use archive_kit::SCOPE;
 use attr_kit::{Seq, Txt};
 use otlp_kit::encode_otlp;
 use page_kit::{openmetrics, prometheus};
@@ -61,8 +62,16 @@ fn asked(only: bool, service: &Txt) -> Option<&str>
     if only { Some(service.as_str()) } else { None }
 }
 
+// The scope that a page leaves out: that of tombstones, unless these are asked for.
+fn left_out(tombstones: bool) -> Option<&'static str>
+    ensures { option_map (λ s. s.now) result ≡ left_out_scope tombstones }
+{
+    if tombstones { None } else { Some(SCOPE) }
+}
+
 /// The page of what a gateway, which stays, holds, in OpenMetrics 1.0: where `only` is true, of one service alone, else of all: then the
-/// service is not looked at. It answers a request that accepts `application/openmetrics-text`, with
+/// service is not looked at. Only where `tombstones` is true it has a row for each tombstone, which tells whom an archive adopted; without
+/// them the families of the kit's own count none of them either. It answers a request that accepts `application/openmetrics-text`, with
 /// `Content-Type: application/openmetrics-text; version=1.0.0; charset=utf-8`.
 ///
 /// Refused, in this order: `FULL`; `NOT_TEXT` where the service is no UTF-8; `NOTHING`; `NO_MEMORY`. O(n log n) comparisons of labels.
@@ -72,17 +81,18 @@ pub extern "C" fn kit_gateway_openmetrics(
     gateway: &mut KitGateway,
     only: bool,
     service: &[u8],
+    tombstones: bool,
     text: &mut KitText,
 ) -> i32
     ensures code { result ≢ no_memory → result ≡ code_for (page_fault (text_in text.old) service.now (gateway_of gateway.old)) }
-    ensures value { result ≡ pos 0 → text_in text.new
-        ≡ option_map (λ g. openmetrics_page (asked_cells (asked_service only service.now) g.points)) (gateway_of gateway.old) }
+    ensures value { result ≡ pos 0 → text_in text.new ≡ option_map (λ g. openmetrics_page (left_in (left_out_scope tombstones)
+        (asked_cells (asked_service only service.now) g.points))) (gateway_of gateway.old) }
     ensures unchanged { result ≢ pos 0 → text_in text.new ≡ text_in text.old }
     ensures kept { node_of gateway.new ≡ node_of gateway.old }
 {
     fill!(alloc, text => {
         let service = or_code!(text_of(alloc, service));
-        with!(alloc, gateway => Gateway(held), openmetrics(alloc, held.gateway(), asked(only, &service)))
+        with!(alloc, gateway => Gateway(held), openmetrics(alloc, held.gateway(), asked(only, &service), left_out(tombstones)))
     }, made => Content::Text(Txt::from_string(made)))
 }
 
@@ -96,16 +106,17 @@ pub extern "C" fn kit_gateway_prometheus(
     gateway: &mut KitGateway,
     only: bool,
     service: &[u8],
+    tombstones: bool,
     text: &mut KitText,
 ) -> i32
     ensures code { result ≢ no_memory → result ≡ code_for (page_fault (text_in text.old) service.now (gateway_of gateway.old)) }
-    ensures value { result ≡ pos 0 → text_in text.new
-        ≡ option_map (λ g. prometheus_page (asked_cells (asked_service only service.now) g.points)) (gateway_of gateway.old) }
+    ensures value { result ≡ pos 0 → text_in text.new ≡ option_map (λ g. prometheus_page (left_in (left_out_scope tombstones)
+        (asked_cells (asked_service only service.now) g.points))) (gateway_of gateway.old) }
     ensures unchanged { result ≢ pos 0 → text_in text.new ≡ text_in text.old }
     ensures kept { node_of gateway.new ≡ node_of gateway.old }
 {
     fill!(alloc, text => {
         let service = or_code!(text_of(alloc, service));
-        with!(alloc, gateway => Gateway(held), prometheus(alloc, held.gateway(), asked(only, &service)))
+        with!(alloc, gateway => Gateway(held), prometheus(alloc, held.gateway(), asked(only, &service), left_out(tombstones)))
     }, made => Content::Text(Txt::from_string(made)))
 }

@@ -10,7 +10,6 @@ use Rattle.std.proofs.lemmas.Bool.{and_parts}
 use Rattle.std.proofs.lemmas.Int.{ints}
 use Rattle.std.proofs.lemmas.List.Sums.{sum_by-cons}
 use Rattle.std.proofs.lemmas.Slice.Eq.{bytes_eq-Decides}
-use Rattle.agg_kit.specs.Feeding.{fed}
 use Rattle.agg_kit.specs.Payloads as payloads
 use Rattle.gateway_kit.specs.Walks.{is_of}
 use Rattle.point_kit.specs.Orders.{bounds_of}
@@ -39,7 +38,7 @@ use Rattle.page_kit.specs.Families.{Measured, is_claimed, metric_cmp, metrics_of
 use Rattle.page_kit.specs.Labels.{labels_cmp, row_labels}
 use Rattle.page_kit.specs.Metrics.{claims, family, kind_of, metric_of}
 use Rattle.page_kit.specs.Names.{same}
-use Rattle.page_kit.specs.Page.{asked_cells}
+use Rattle.page_kit.specs.Page.{asked_cells, is_left_in, left_in}
 use Rattle.page_kit.specs.Recorded.{AreNumbers, IsRecorded, goes_to, is_asked, row_values}
 use Rattle.page_kit.specs.Rows.{row_bounds, rows}
 use Rattle.page_kit.specs.Totals.{KeyedCell, count_in, count_of, is_conflict, sum_in, sum_of}
@@ -249,9 +248,9 @@ module _ {N : Type 0} (q : Rounding N Key WriterId Name Payload) (sound : IsSoun
         adds_up z p laws read_where ∙ total-flat_map z p laws read_where cells_of is ∙ total_same z p laws (λ i. total z p read_where (cells_of i)) (λ i. total z p weighed_where (fed_at i)) is (λ i j. of_incarnation i j)
         ∙ sym (total-flat_map z p laws weighed_where fed_at is)
 
-  module _ (service : Option (List ℕ)) (m : Measured) (there : In m (shown_metrics (asked_cells service (state r ms)))) (w : List Label × List KeyedCell) (here : In w (rows m.1)) where
+  module _ (service but : Option (List ℕ)) (m : Measured) (there : In m (shown_metrics (left_in but (asked_cells service (state r ms))))) (w : List Label × List KeyedCell) (here : In w (rows m.1)) where
     abbrev asks : Key → Bool
-    asks = goes_to service m.0 w.0
+    asks = goes_to service but m.0 w.0
 
     abbrev of_metric : KeyedCell → Bool
     of_metric e = eq_by_cmp metric_cmp m.0 (metric_of e.0.stream)
@@ -260,7 +259,7 @@ module _ {N : Type 0} (q : Rounding N Key WriterId Name Payload) (sound : IsSoun
     of_labels e = eq_by_cmp labels_cmp w.0 (row_labels e.0)
 
     abbrev values : List ℤ
-    values = row_values service m.0 w.0 all_fed
+    values = row_values service but m.0 w.0 all_fed
 
     its_row : w.1 ≡ filter of_labels m.1
     its_row = row_cells m.1 w here
@@ -268,12 +267,16 @@ module _ {N : Type 0} (q : Rounding N Key WriterId Name Payload) (sound : IsSoun
     -- the row has the cells of its keys
     picked : w.1 ≡ filter (λ e. asks e.0) held
     picked =
-        its_row ∙ ap (filter of_labels) (metric_cells (asked_cells service (state r ms)) m (shown_metric (asked_cells service (state r ms)) m there))
-        ∙ filter_twice of_metric of_labels (asked_cells service (state r ms)) ∙ served service
+        let all = left_in but (asked_cells service (state r ms)) in
+        its_row ∙ ap (filter of_labels) (metric_cells all m (shown_metric all m there)) ∙ filter_twice of_metric of_labels all
+        ∙ left but (λ e. of_metric e && of_labels e) (asked_cells service (state r ms)) ∙ served service (λ e. is_left_in but e.0 && (of_metric e && of_labels e))
       where
-        served : (o : Option (List ℕ)) → filter (λ e. of_metric e && of_labels e) (asked_cells o (state r ms)) ≡ filter (λ e. is_asked o e.0 && (of_metric e && of_labels e)) held
-        served None = refl
-        served (Some t) = filter_twice (λ (e : KeyedCell). is_of t e.0.writer) (λ e. of_metric e && of_labels e) held
+        left : (o : Option (List ℕ)) (p : KeyedCell → Bool) (es : List KeyedCell) → filter p (left_in o es) ≡ filter (λ e. is_left_in o e.0 && p e) es
+        left None p es = refl
+        left (Some scope) p es = filter_twice (λ (e : KeyedCell). is_left_in (Some scope) e.0) p es
+        served : (o : Option (List ℕ)) (p : KeyedCell → Bool) → filter p (asked_cells o (state r ms)) ≡ filter (λ e. is_asked o e.0 && p e) held
+        served None p = refl
+        served (Some t) p = filter_twice (λ (e : KeyedCell). is_of t e.0.writer) p held
 
     row_is : {U : Type 0} (z : U) (p : U → U → U) → IsSum z p → (reads : KeyedCell → U) (weigh : ℤ → U)
         → ((i : ℕ × ℕ) → In i is → (x : Name) → In x (names_at i) → asks (key_of i x) ≡ true → reads (cell_of i x) ≡ total z p weigh (its_values i x)) → total z p reads w.1 ≡ total z p weigh values
@@ -290,7 +293,8 @@ module _ {N : Type 0} (q : Rounding N Key WriterId Name Payload) (sound : IsSoun
     -- a key of the row is of its metric
     its_kind : (e : KeyedCell) → asks e.0 ≡ true → kind_of e.0.stream.shape ≡ m.0.kind
     its_kind e t =
-        let both = (and_parts (is_asked service e.0) (of_metric e && of_labels e) t).1 in
+        let left = (and_parts (is_asked service e.0) (is_left_in but e.0 && (of_metric e && of_labels e)) t).1 in
+        let both = (and_parts (is_left_in but e.0) (of_metric e && of_labels e) left).1 in
         ap (λ (n : Metric). n.kind) (sym (one_metric m.0 (metric_of e.0.stream) (and_parts (of_metric e) (of_labels e) both).0))
 
     -- a name of the row is of its metric

@@ -1,9 +1,9 @@
 -- Which bounds a set has, and which are kept.
-use Rattle.std.proofs.Common.{◌≡◌, ℕ, ℤ, ◌+◌, ◌<◌, ◌||◌, Bool, true, false, cond, List, [], ◌∷◌, ◌++◌, filter, length, take, get_or, refl, sym, ap, ◌∙◌, append_assoc}
+use Rattle.std.proofs.Common.{◌≡◌, ℕ, ℤ, ◌+◌, ◌<◌, ◌||◌, Bool, true, false, cond, List, [], ◌∷◌, ◌++◌, map, filter, length, take, get_or, refl, sym, ap, ◌∙◌, append_assoc}
 use Rattle.std.specs.Cmp.{eq_by_cmp_equiv, int_cmp_total}
 use Rattle.std.specs.List.{list_any}
 use Rattle.std.specs.Ordering.{eq_by_cmp, int_cmp}
-use Rattle.std.proofs.lemmas.List.{append-nil, take_more}
+use Rattle.std.proofs.lemmas.List.{append-nil, map-append, take_more}
 use Rattle.std.proofs.lemmas.List.Elements.{filter_more}
 
 or_first : (a b : Bool) → (a || b) ≡ cond b true a
@@ -47,4 +47,11 @@ pub kept_next : {A : Type 0} (p : A → Bool) (out next left : List A) (x : A) �
 kept_next {A} p out next left x is = ap (λ (l : List A). l ++ filter p left) is ∙ both (p x) where
   both : (b : Bool) → cond b (out ++ x ∷ []) out ++ filter p left ≡ out ++ cond b (x ∷ filter p left) (filter p left)
   both true = append_assoc out (x ∷ []) (filter p left)
+  both false = refl
+
+-- and the same of what is read of it
+pub read_next : {A B : Type 0} (view : A → B) (p : B → Bool) (out next : List A) (left : List B) (x : A) → next ≡ cond (p (view x)) (out ++ x ∷ []) out → map view next ++ filter p left ≡ map view out ++ filter p (view x ∷ left)
+read_next {A} {B} view p out next left x is = ap (λ (l : List A). map view l ++ filter p left) is ∙ both (p (view x)) where
+  both : (b : Bool) → map view (cond b (out ++ x ∷ []) out) ++ filter p left ≡ map view out ++ cond b (view x ∷ filter p left) (filter p left)
+  both true = ap (λ (l : List B). l ++ filter p left) (map-append view out (x ∷ [])) ∙ append_assoc (map view out) (view x ∷ []) (filter p left)
   both false = refl

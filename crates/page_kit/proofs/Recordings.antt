@@ -1,5 +1,5 @@
 -- The numbers of a page's rows are those of what was recorded.
-use Rattle.std.proofs.Common.{◌≡◌, ℕ, ℤ, pos, ◌+◌, ◌+ℤ◌, not, Bool, true, false, cond, List, Option, refl, sym, ap, subst, ◌∙◌, arith}
+use Rattle.std.proofs.Common.{◌≡◌, ℕ, ℤ, pos, ◌+◌, ◌+ℤ◌, Bool, true, false, cond, List, Option, refl, sym, ap, subst, ◌∙◌, arith}
 use Rattle.std.specs.Prelude.{int_le}
 use Rattle.std.proofs.lemmas.Bool.{and_parts}
 use Rattle.agg_kit.specs.Entries.{Entry}
@@ -31,8 +31,7 @@ use Rattle.schedule_kit.proofs.Taking.{are_taken, taken_made, up_to_newest}
 use Rattle.page_kit.specs.Bounds.{buckets_in, count_up_to}
 use Rattle.page_kit.specs.Families.{Measured, shown_metrics}
 use Rattle.page_kit.specs.Metrics.{kind_of}
-use Rattle.page_kit.specs.Names.{same}
-use Rattle.page_kit.specs.Page.{asked_cells}
+use Rattle.page_kit.specs.Page.{asked_cells, left_in}
 use Rattle.page_kit.specs.Recorded.{IsRecorded, AreProper, NumbersAreRecorded, recordings, row_values}
 use Rattle.page_kit.specs.Rows.{rows}
 use Rattle.page_kit.specs.Totals.{KeyedCell, count_in, sum_in}
@@ -125,14 +124,14 @@ module _ (s : Writers) (plans : ArePlans s) (proper : AreProper s) (told : AreTo
       ∙ sym (values_at (s.plan i.0) (entries_at i) (s.plan i.0).streams 0 (plans i.0) at.0 x.0 at.1 x.1) in
       subst (λ (l : List ℤ). Tells x.0.shape (payload_at (s.plan i.0) (entries_at i) x) l) same (payload_tells x.0.shape vs (proper i.0 at.0 x.0 at.1))
 
-  pub all_recorded : (service : Option (List ℕ)) (m : Measured) → In m (shown_metrics (asked_cells service (state (rounding s) ms))) → (w : List Label × List KeyedCell) → In w (rows m.1)
-      → IsRecorded m w (row_values service m.0 w.0 (recordings s ds h))
-  all_recorded service m there w here =
-      subst (λ (E : ℕ × ℕ → List Entry). IsRecorded m w (row_values service m.0 w.0 (values_fed (rounding s) E is (entries_fed s)))) (λ n i. sym (up_to_newest s.starts ds h i.0 i.1) n)
+  pub all_recorded : (service but : Option (List ℕ)) (m : Measured) → In m (shown_metrics (left_in but (asked_cells service (state (rounding s) ms)))) → (w : List Label × List KeyedCell) → In w (rows m.1)
+      → IsRecorded m w (row_values service but m.0 w.0 (recordings s ds h))
+  all_recorded service but m there w here =
+      subst (λ (E : ℕ × ℕ → List Entry). IsRecorded m w (row_values service but m.0 w.0 (values_fed (rounding s) E is (entries_fed s)))) (λ n i. sym (up_to_newest s.starts ds h i.0 i.1) n)
       (are_recorded (rounding s) (rounding_sound s plans) (λ i start x. refl) ms (are_taken s.starts fits gateways s.who told ds lawful h) is
       (incarnations_once s.starts s.who told fits gateways ds lawful) (λ m i. made_in s.starts fits gateways ds lawful m (taken_made s.starts ds h m i)) (entries_fed s)
       (λ i j v k. fed_named (s.plan i.0) (entries_at i) 0 (s.plan i.0).streams v k) (λ i j x k. tells i x k)
-      service m there w here)
+      service but m there w here)
 
 pub numbers_recorded : NumbersAreRecorded
-numbers_recorded s plans proper told fits gateways ds lawful h service m there w here = all_recorded s plans proper told fits gateways ds lawful h service m there w here
+numbers_recorded s plans proper told fits gateways ds lawful h service but m there w here = all_recorded s plans proper told fits gateways ds lawful h service but m there w here

@@ -1,10 +1,11 @@
 -- The page of a gateway's points.
-use Rattle.std.specs.Prelude.{ℕ, ◌+◌, ◌/◌, ◌%◌, ◌^◌, List, [], ◌∷◌, ◌++◌, map, filter, length, codes, Option, Some, None}
+use Rattle.std.specs.Prelude.{ℕ, Bool, true, ◌+◌, ◌/◌, ◌%◌, ◌^◌, not, List, [], ◌∷◌, ◌++◌, map, filter, length, bytes_eq, codes, Option, Some, None}
 use Rattle.std.specs.FinMap.{entries}
 use Rattle.std.specs.Fmt.{decimal}
 use Rattle.std.specs.List.{flat_map}
 use Rattle.gateway_kit.specs.Walks.{is_of}
 use Rattle.point_kit.specs.Exports.{Points}
+use Rattle.point_kit.specs.declared.key.Key.{Key}
 use Rattle.page_kit.specs.Families.{Measured, shown_metrics, hidden_metrics}
 use Rattle.page_kit.specs.Groups.{keyed, groups}
 use Rattle.page_kit.specs.Labels.{labels_cmp, service_labels, metric_labels, conflict_labels}
@@ -70,6 +71,16 @@ last_line Prometheus = []
 abbrev pub asked_cells : Option (List ℕ) → Points → List KeyedCell
 asked_cells None points = entries points
 asked_cells (Some service) points = filter (λ e. is_of service e.0.writer) (entries points)
+
+-- whether a key is left in: its scope is not the one that is left out, where one is
+abbrev pub is_left_in : Option (List ℕ) → Key → Bool
+is_left_in None key = true
+is_left_in (Some scope) key = not (bytes_eq key.stream.scope scope)
+
+-- the cells that are left in: all, where no scope is left out
+abbrev pub left_in : Option (List ℕ) → List KeyedCell → List KeyedCell
+left_in None cells = cells
+left_in (Some scope) cells = filter (λ e. is_left_in (Some scope) e.0) cells
 
 -- the page of cells: the families of the metrics that are shown, in the order of their names, and the kit's own
 unfoldable pub page : Format → List KeyedCell → List ℕ

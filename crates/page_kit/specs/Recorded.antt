@@ -18,7 +18,7 @@ use Rattle.page_kit.specs.Bounds.{values_up_to, within_room}
 use Rattle.page_kit.specs.Families.{Measured, metric_cmp, shown_metrics}
 use Rattle.page_kit.specs.Labels.{labels_cmp, row_labels}
 use Rattle.page_kit.specs.Metrics.{metric_of}
-use Rattle.page_kit.specs.Page.{asked_cells}
+use Rattle.page_kit.specs.Page.{asked_cells, is_left_in, left_in}
 use Rattle.page_kit.specs.Rows.{row_bounds, rows}
 use Rattle.page_kit.specs.Totals.{KeyedCell, is_conflict, sum_of, count_of}
 use Rattle.page_kit.specs.declared.labels.Label.{Label}
@@ -40,13 +40,14 @@ is_asked None key = true
 is_asked (Some service) key = is_of service key.writer
 
 -- a key goes to the row of a metric that has these labels
-abbrev pub goes_to : Option (List ℕ) → Metric → List Label → Key → Bool
-goes_to service m labels key =
-    is_asked service key && (eq_by_cmp metric_cmp m (metric_of key.stream) && eq_by_cmp labels_cmp labels (row_labels key))
+abbrev pub goes_to : Option (List ℕ) → Option (List ℕ) → Metric → List Label → Key → Bool
+goes_to service but m labels key =
+    is_asked service key
+    && (is_left_in but key && (eq_by_cmp metric_cmp m (metric_of key.stream) && eq_by_cmp labels_cmp labels (row_labels key)))
 
 -- the values that were recorded under the keys of a row
-abbrev pub row_values : Option (List ℕ) → Metric → List Label → List (Key × ℤ) → List ℤ
-row_values service m labels values = map (λ v. v.1) (filter (λ v. goes_to service m labels v.0) values)
+abbrev pub row_values : Option (List ℕ) → Option (List ℕ) → Metric → List Label → List (Key × ℤ) → List ℤ
+row_values service but m labels values = map (λ v. v.1) (filter (λ v. goes_to service but m labels v.0) values)
 
 -- what the numbers of a row are, of a sum and of a histogram: the values added up, how many they are, and how many are
 -- not above each bound
@@ -64,11 +65,11 @@ pub record IsRecorded (m : Measured) (r : List Label × List KeyedCell) (values 
   pub numbers : AreNumbers m.0.kind (row_bounds m.1 r.1) r.1 values
 
 -- Where no two writers share an identity, the numbers of each row of each family on a gateway's page are those of what was
--- recorded under the row's keys.
+-- recorded under the row's keys, of whatever service the page is, and whatever scope it leaves out.
 abbrev pub NumbersAreRecorded : Type 0
 NumbersAreRecorded = (s : Writers) → ArePlans s → AreProper s → AreTold s
     → (fits : ℕ → List Entry → Entry → Bool) (gateways : ℕ) (ds : List (Deed Entry)) → AreLawful fits s.starts gateways ds
-    → (h : Holder) (service : Option (List ℕ)) (m : Measured)
-    → In m (shown_metrics (asked_cells service (state (rounding s) (taken_collections s.starts ds h))))
+    → (h : Holder) (service but : Option (List ℕ)) (m : Measured)
+    → In m (shown_metrics (left_in but (asked_cells service (state (rounding s) (taken_collections s.starts ds h)))))
     → (r : List Label × List KeyedCell) → In r (rows m.1)
-    → IsRecorded m r (row_values service m.0 r.0 (recordings s ds h))
+    → IsRecorded m r (row_values service but m.0 r.0 (recordings s ds h))

@@ -12,8 +12,8 @@ pub fn rows_and_families_differ()
 
 /// Each number of a page is what was recorded, where no two writers share an identity. Every row is shown then, and its sum is that of
 /// the values recorded under the row's keys, in each incarnation up to its newest collection that the gateway took, each counted
-/// once. A histogram's count is their number, and a bucket's is the number of those that are not above its bound. Of a gauge
-/// nothing is said: its newest value counts.
+/// once. A histogram's count is their number, and a bucket's is the number of those that are not above its bound. So it is on a page that
+/// leaves out a scope. Of a gauge nothing is said: its newest value counts.
 #[tactic(auto, using(crate::proofs::Recordings::numbers_recorded))]
 pub fn numbers_are_recorded()
     ensures numbers { NumbersAreRecorded }

@@ -1,11 +1,11 @@
 //! A gateway's points as a page that Prometheus scrapes, and whatever else reads OpenMetrics.
 //!
 //! - [`openmetrics`] makes the page in OpenMetrics 1.0, and [`prometheus`] in Prometheus' text format 0.0.4: of the points of one
-//!   service, or of all.
+//!   service, or of all, and without a scope where one is to be left out.
 //!
 //! A caller (`crates/page_kit/src/tests.rt`):
 //!
-//!     let page = openmetrics(alloc, &gateway, None)?;
+//!     let page = openmetrics(alloc, &gateway, None, None)?;
 //!
 //! Laws: rows and families differ ([`laws::rows_and_families_differ`]), and each number of a page is what was recorded
 //! ([`laws::numbers_are_recorded`]).

@@ -1,9 +1,9 @@
 //! Pages.
-ghost use Rattle.std.specs.Prelude.{◌≡◌, IfOk, OnOk, string_bytes};
+ghost use Rattle.std.specs.Prelude.{◌≡◌, [], ◌∷◌, ◌++◌, if◌then◌else◌, IfOk, OnOk, string_bytes};
 ghost use Rattle.std.specs.List.{flat_map};
 ghost use Rattle.std.specs.Option.{option_map};
-ghost use Rattle.gateway_kit.specs.Walks.{points_left};
-ghost use Rattle.page_kit.specs.Page.{last_line, asked_cells, page};
+ghost use Rattle.gateway_kit.specs.Walks.{keyed_cell_of_ref, points_left};
+ghost use Rattle.page_kit.specs.Page.{last_line, asked_cells, is_left_in, left_in, page};
 ghost use Rattle.page_kit.specs.Rows.{family_text};
 ghost use Rattle.page_kit.specs.Pages.{openmetrics_page, prometheus_page};
 ghost use Rattle.page_kit.specs.Views.{Appends, cells, all_measured};
@@ -25,12 +25,42 @@ fn asked_points<'a>(gateway: &'a Gateway, service: Option<&'a str>) -> Points<'a
     }
 }
 
-fn list_of<'a>(alloc: Global, points: Points<'a>) -> Result<Vec<PointRef<'a>>, NoMemory>
-    ensures { IfOk result (λ list. cells list.items ≡ points_left points.entry) }
+// Whether a point is left in: its scope is not the one that is left out.
+fn is_left_in(but: Option<&str>, point: PointRef) -> bool
+    ensures { result ≡ is_left_in (option_map (λ s. s.now) but.entry) (keyed_cell_of_ref point.entry).0 }
+{
+    match but {
+        Some(scope) => point.stream.scope.as_str() != scope,
+        None => true,
+    }
+}
+
+// Puts a point behind others, if it is left in.
+fn push_left_in<'a>(
+    list: &mut Vec<PointRef<'a>>,
+    but: Option<&str>,
+    point: PointRef<'a>,
+) -> Result<(), NoMemory>
+    ensures { OnOk result (list.new.items ≡ (if is_left_in (option_map (λ s. s.now) but.entry) (keyed_cell_of_ref point.entry).0
+        then list.old.items ++ point.entry ∷ [] else list.old.items)) }
+{
+    if !is_left_in(but, point) {
+        return Ok(());
+    }
+    list.push(point)?;
+    Ok(())
+}
+
+fn list_of<'a>(
+    alloc: Global,
+    points: Points<'a>,
+    but: Option<&str>,
+) -> Result<Vec<PointRef<'a>>, NoMemory>
+    ensures { IfOk result (λ list. cells list.items ≡ left_in (option_map (λ s. s.now) but.entry) (points_left points.entry)) }
 {
     let mut list = Vec::new(alloc);
     for point in points {
-        list.push(point)?;
+        push_left_in(&mut list, but, point)?;
     }
     Ok(list)
 }
@@ -77,14 +107,16 @@ fn page(alloc: Global, format: Format, points: &[PointRef]) -> Result<String, No
     Ok(text)
 }
 
-/// The page of a gateway's points in OpenMetrics 1.0: of a service where one is given, else of all. It is the answer to a request
-/// that accepts `application/openmetrics-text`, with `Content-Type: application/openmetrics-text; version=1.0.0; charset=utf-8`.
+/// The page of a gateway's points in OpenMetrics 1.0: of a service where one is given, else of all, and without those of the scope
+/// `but` where one is given, as that of an archive's tombstones. It is the answer to a request that accepts
+/// `application/openmetrics-text`, with `Content-Type: application/openmetrics-text; version=1.0.0; charset=utf-8`.
 ///
 /// A metric is a name, a unit and a kind, and has a family: its name and its unit as Prometheus wants them. Keys of a metric whose
 /// labels are equal are one row, over all writers and incarnations: sums add up, of gauges the newest counts, and histograms add up
 /// at the bounds that all keys of the metric and the service have. A row in which some key holds a conflict is not shown, and of
-/// metrics that claim one name only the one whose incarnation is the youngest. Four families of the kit's own tell what is left
-/// out, and when each service's newest point came. Totals have all their digits, and no value is converted.
+/// metrics that claim one name only the one whose incarnation is the youngest. Four families of the kit's own tell how many keys
+/// the page is of, which of these it does not show, and when each service's newest one came. So they count nothing of the scope
+/// `but`, and nothing of other services. Totals have all their digits, and no value is converted.
 ///
 /// O(n log n) comparisons of labels for n points; of a histogram's row each shared bound is compared with each bound of its
 /// points. Takes memory for the text, and for the labels of each point. `NoMemory` comes only where a growth was refused.
@@ -92,11 +124,12 @@ pub fn openmetrics(
     alloc: Global,
     gateway: &Gateway,
     service: Option<&str>,
+    but: Option<&str>,
 ) -> Result<String, NoMemory>
-    ensures value { IfOk result (λ text. string_bytes text
-        ≡ openmetrics_page (asked_cells (option_map (λ s. s.now) service.entry) gateway.now.points)) }
+    ensures value { IfOk result (λ text. string_bytes text ≡ openmetrics_page (left_in (option_map (λ s. s.now) but.entry)
+        (asked_cells (option_map (λ s. s.now) service.entry) gateway.now.points))) }
 {
-    let points = list_of(alloc, asked_points(gateway, service))?;
+    let points = list_of(alloc, asked_points(gateway, service), but)?;
     page(alloc, Format::OpenMetrics, points.as_slice())
 }
 
@@ -107,10 +140,11 @@ pub fn prometheus(
     alloc: Global,
     gateway: &Gateway,
     service: Option<&str>,
+    but: Option<&str>,
 ) -> Result<String, NoMemory>
-    ensures value { IfOk result (λ text. string_bytes text
-        ≡ prometheus_page (asked_cells (option_map (λ s. s.now) service.entry) gateway.now.points)) }
+    ensures value { IfOk result (λ text. string_bytes text ≡ prometheus_page (left_in (option_map (λ s. s.now) but.entry)
+        (asked_cells (option_map (λ s. s.now) service.entry) gateway.now.points))) }
 {
-    let points = list_of(alloc, asked_points(gateway, service))?;
+    let points = list_of(alloc, asked_points(gateway, service), but)?;
     page(alloc, Format::Prometheus, points.as_slice())
 }

@@ -93,6 +93,65 @@ const NO_KEYS: &str = "kotskhin_keys 0
 
 const NOTHING: [&str; 6] = [CONFLICTS, KEYS, NO_KEYS, LEFT_OUT, NEWEST, END];
 
+// A point, and the tombstone of an archive, that is newer.
+const ADOPTED: &str = "# TYPE adopted_nanoseconds gauge
+# UNIT adopted_nanoseconds nanoseconds
+# HELP adopted_nanoseconds adopted (ns)
+adopted_nanoseconds{otel_scope_name=\"kotskhin.archive\",service_name=\"shop\",start=\"100\"} 500
+";
+
+const ARCHIVED_ROWS: &str = "requests_total{otel_scope_name=\"app\",service_name=\"shop\"} 7
+";
+
+const ARCHIVED_KEYS: &str = "kotskhin_keys 2
+";
+
+const ARCHIVED_NEWEST: &str = "kotskhin_newest_seconds{service_name=\"shop\"} 0.000000500
+";
+
+const ARCHIVED: [&str; 10] = [
+    ADOPTED,
+    REQUESTS,
+    ARCHIVED_ROWS,
+    CONFLICTS,
+    KEYS,
+    ARCHIVED_KEYS,
+    LEFT_OUT,
+    NEWEST,
+    ARCHIVED_NEWEST,
+    END,
+];
+
+// The same without the tombstone, in both formats.
+const UNARCHIVED_KEYS: &str = "kotskhin_keys 1
+";
+
+const UNARCHIVED_NEWEST: &str = "kotskhin_newest_seconds{service_name=\"shop\"} 0.000000200
+";
+
+const UNARCHIVED: [&str; 9] = [
+    REQUESTS,
+    ARCHIVED_ROWS,
+    CONFLICTS,
+    KEYS,
+    UNARCHIVED_KEYS,
+    LEFT_OUT,
+    NEWEST,
+    UNARCHIVED_NEWEST,
+    END,
+];
+
+const UNARCHIVED_AS_TEXT: [&str; 8] = [
+    REQUESTS_AS_TEXT,
+    ARCHIVED_ROWS,
+    CONFLICTS,
+    KEYS,
+    UNARCHIVED_KEYS,
+    LEFT_OUT,
+    NEWEST_AS_TEXT,
+    UNARCHIVED_NEWEST,
+];
+
 // Conflicts: of counters, of a gauge, and of a histogram beside a row of it that has none.
 const TORN_ROWS: &str = "requests_total{k=\"v\",otel_scope_name=\"app\",service_name=\"shop\"} 7
 ";
@@ -452,9 +511,9 @@ fn the_first_page(rt: HostRuntime) -> Result<(), Fail> {
     let (one, two) = (cell(200, Payload::Sum(1)), cell(200, Payload::Sum(2)));
     count_of(alloc, &mut gateway, shop(1, 100), route, one)?;
     count_of(alloc, &mut gateway, shop(2, 100), route, two)?;
-    let page = openmetrics(alloc, &gateway, None)?;
+    let page = openmetrics(alloc, &gateway, None, None)?;
     assert_eq!(rt; page.as_str(), joined(alloc, &FIRST)?.as_str());
-    let page = prometheus(alloc, &gateway, None)?;
+    let page = prometheus(alloc, &gateway, None, None)?;
     assert_eq!(rt; page.as_str(), joined(alloc, &FIRST_AS_TEXT)?.as_str());
     Ok(())
 }
@@ -464,8 +523,39 @@ fn the_page_of_nothing(rt: HostRuntime) -> Result<(), Fail> {
     let alloc = rt.alloc();
     let mut gateway = Gateway::new(alloc, 1);
     count(alloc, &mut gateway, shop(1, 100), 200, 7)?;
-    let page = openmetrics(alloc, &gateway, Some("till"))?;
+    let page = openmetrics(alloc, &gateway, Some("till"), None)?;
     assert_eq!(rt; page.as_str(), joined(alloc, &NOTHING)?.as_str());
+    Ok(())
+}
+
+// The page that leaves out a scope, as a list of parts.
+const LEAVING_OUT: [(Option<&str>, &[&str]); 4] = [
+    (None, &ARCHIVED),
+    (Some("kotskhin.archive"), &UNARCHIVED),
+    (Some("kotskhin"), &ARCHIVED),
+    (Some("adopted"), &ARCHIVED),
+];
+
+#[test]
+fn a_scope_is_left_out(rt: HostRuntime) -> Result<(), Fail> {
+    let alloc = rt.alloc();
+    let mut gateway = Gateway::new(alloc, 1);
+    let tombstones = Of {
+        scope: "kotskhin.archive",
+        name: "adopted",
+        unit: "ns",
+        ..shop(2, 1)
+    };
+    let adopted = cell(500, Payload::Gauge(500));
+    let of = Some(("start", "100"));
+    count(alloc, &mut gateway, shop(1, 100), 200, 7)?;
+    hold(alloc, &mut gateway, tombstones, Shape::Gauge, of, adopted)?;
+    for (but, parts) in LEAVING_OUT {
+        let page = openmetrics(alloc, &gateway, None, but)?;
+        assert_eq!(rt; page.as_str(), joined(alloc, parts)?.as_str());
+    }
+    let page = prometheus(alloc, &gateway, Some("shop"), Some("kotskhin.archive"))?;
+    assert_eq!(rt; page.as_str(), joined(alloc, &UNARCHIVED_AS_TEXT)?.as_str());
     Ok(())
 }
 
@@ -513,7 +603,7 @@ fn rows_with_conflicts_are_not_shown(rt: HostRuntime) -> Result<(), Fail> {
         conflict(200),
     )?;
     hold(alloc, &mut gateway, size("", 100), shape, by_k("v"), one)?;
-    let page = openmetrics(alloc, &gateway, None)?;
+    let page = openmetrics(alloc, &gateway, None, None)?;
     assert_eq!(rt; page.as_str(), joined(alloc, &TORN)?.as_str());
     Ok(())
 }
@@ -592,7 +682,7 @@ fn a_life_resets_nothing(rt: HostRuntime) -> Result<(), Fail> {
     let mut gateway = Gateway::new(alloc, 1);
     for (step, parts) in LIFE.iter().enumerate() {
         live(alloc, &mut gateway, step)?;
-        let page = openmetrics(alloc, &gateway, None)?;
+        let page = openmetrics(alloc, &gateway, None, None)?;
         assert_eq!(rt; page.as_str(), joined(alloc, parts)?.as_str());
     }
     Ok(())

@@ -20,6 +20,9 @@ struct Taking {
     bool is_late;
 };
 
+// Whether a page shows the tombstones of archives, a row for each incarnation that one adopted.
+enum class Tombstones : bool { LeftOut = false, Shown = true };
+
 // The newest points of all writers that were brought to it, in whatever order and however often. What a tombstone of an archive names is
 // counted in the archive's totals, so its points are forgotten as the tombstone comes. Gateways tell each other by merge, or by messages.
 class Gateway : public Thing<kit_gateway> {
@@ -130,9 +133,13 @@ public:
     }
     // The page of what it holds, in OpenMetrics 1.0: of one service, or of all where none is said. It answers a request that accepts
     // application/openmetrics-text, with Content-Type: application/openmetrics-text; version=1.0.0; charset=utf-8.
-    std::string openmetrics(std::optional<std::string_view> service = {}) const { return render_page(service, kit_gateway_openmetrics); }
+    std::string openmetrics(std::optional<std::string_view> service = {}, Tombstones tombstones = Tombstones::LeftOut) const {
+        return render_page(service, tombstones, kit_gateway_openmetrics);
+    }
     // The same page in Prometheus' text format 0.0.4, with Content-Type: text/plain; version=0.0.4; charset=utf-8.
-    std::string prometheus(std::optional<std::string_view> service = {}) const { return render_page(service, kit_gateway_prometheus); }
+    std::string prometheus(std::optional<std::string_view> service = {}, Tombstones tombstones = Tombstones::LeftOut) const {
+        return render_page(service, tombstones, kit_gateway_prometheus);
+    }
     // All its points as bytes, to be kept: merge_bytes brings them back.
     std::vector<uint8_t> encode() const {
         Handle<kit_bytes> bytes;
@@ -142,10 +149,10 @@ public:
 
 private:
     template <typename Call>
-    std::string render_page(std::optional<std::string_view> of, Call call) const {
+    std::string render_page(std::optional<std::string_view> of, Tombstones tombstones, Call call) const {
         Handle<kit_text> page;
         Text service(of.value_or(""));
-        check(call(handle.lent().at(), of.has_value(), service.at, service.len, page.at()));
+        check(call(handle.lent().at(), of.has_value(), service.at, service.len, tombstones == Tombstones::Shown, page.at()));
         return detail::copy_text([&](auto... room) { return kit_text_copy(page.lent().at(), room...); });
     }
 };

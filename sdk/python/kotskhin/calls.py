@@ -250,18 +250,18 @@ def kit_export_otlp(export_: Given, bytes: Given) -> None:
     check_at(_kit_export_otlp, export_, bytes)
 
 
-_kit_gateway_openmetrics = function("kit_gateway_openmetrics", c_int32, POINTER(Raw), c_bool, c_char_p, c_size_t, POINTER(Raw))
+_kit_gateway_openmetrics = function("kit_gateway_openmetrics", c_int32, POINTER(Raw), c_bool, c_char_p, c_size_t, c_bool, POINTER(Raw))
 
 
-def kit_gateway_openmetrics(gateway: Given, only: bool, service: Given, service_len: Whole, text: Given) -> None:
-    check(_kit_gateway_openmetrics, gateway, only, service, service_len, text)
+def kit_gateway_openmetrics(gateway: Given, only: bool, service: Given, service_len: Whole, tombstones: bool, text: Given) -> None:
+    check(_kit_gateway_openmetrics, gateway, only, service, service_len, tombstones, text)
 
 
-_kit_gateway_prometheus = function("kit_gateway_prometheus", c_int32, POINTER(Raw), c_bool, c_char_p, c_size_t, POINTER(Raw))
+_kit_gateway_prometheus = function("kit_gateway_prometheus", c_int32, POINTER(Raw), c_bool, c_char_p, c_size_t, c_bool, POINTER(Raw))
 
 
-def kit_gateway_prometheus(gateway: Given, only: bool, service: Given, service_len: Whole, text: Given) -> None:
-    check(_kit_gateway_prometheus, gateway, only, service, service_len, text)
+def kit_gateway_prometheus(gateway: Given, only: bool, service: Given, service_len: Whole, tombstones: bool, text: Given) -> None:
+    check(_kit_gateway_prometheus, gateway, only, service, service_len, tombstones, text)
 
 
 _kit_gateway_open = function("kit_gateway_open", c_int32, POINTER(Raw), c_uint32)

@@ -183,18 +183,20 @@ class Gateway(LockedHandle):
                     services.append(copy_out(calls.kit_gateway_service, self, len(services)).decode())
         return services
 
-    def openmetrics(self, service: str | None = None) -> str:
-        """The page of what it holds, of one service or of all, in OpenMetrics 1.0. Its type is OPENMETRICS_TYPE."""
-        return self._page(calls.kit_gateway_openmetrics, service)
+    def openmetrics(self, service: str | None = None, *, tombstones: bool = False) -> str:
+        """The page of what it holds, of one service or of all, in OpenMetrics 1.0. Its type is OPENMETRICS_TYPE.
 
-    def prometheus(self, service: str | None = None) -> str:
+        Tombstones of archives, one for each incarnation that was adopted, are shown only where they are asked for."""
+        return self._page(calls.kit_gateway_openmetrics, service, tombstones)
+
+    def prometheus(self, service: str | None = None, *, tombstones: bool = False) -> str:
         """The same page in Prometheus' text format 0.0.4. Its type is PROMETHEUS_TYPE."""
-        return self._page(calls.kit_gateway_prometheus, service)
+        return self._page(calls.kit_gateway_prometheus, service, tombstones)
 
-    def _page(self, call: Checked, service: str | None) -> str:
+    def _page(self, call: Checked, service: str | None, tombstones: bool) -> str:
         with Handle() as made:
             with self._lock:
-                call(self, service is not None, *text(service or ""), made)
+                call(self, service is not None, *text(service or ""), tombstones, made)
             return copy_out(calls.kit_text_copy, made).decode()
 
     def rows(self, ask: Ask) -> Rows:

@@ -63,12 +63,12 @@ func (l *Look) Gateway() kotskhin.Gateway { return l.gateway }
 
 // OpenMetrics is the page, which is made once for a look.
 func (l *Look) OpenMetrics() (string, error) {
-	return l.openMetrics.get(l.gateway.OpenMetrics)
+	return l.openMetrics.get(func() (string, error) { return l.gateway.OpenMetrics() })
 }
 
 // Prometheus is the page in the text format, which is made once for a look.
 func (l *Look) Prometheus() (string, error) {
-	return l.prometheus.get(l.gateway.Prometheus)
+	return l.prometheus.get(func() (string, error) { return l.gateway.Prometheus() })
 }
 
 func (p *page) get(write func() (string, error)) (string, error) {

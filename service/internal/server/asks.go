@@ -84,6 +84,18 @@ func areKeys(words []string) error {
 	return nil
 }
 
+// asksForTombstones tells whether the query of a page asks for the tombstones of archives.
+func asksForTombstones(query url.Values) (bool, error) {
+	said := query["tombstones"]
+	if len(said) == 0 {
+		return false, nil
+	}
+	if len(said) > 1 || said[0] != "true" && said[0] != "false" {
+		return false, badQuery("tombstones=%s: tombstones is true or false, and may come once", strings.Join(said, "&tombstones="))
+	}
+	return said[0] == "true", nil
+}
+
 func badQuery(form string, values ...any) error {
 	return refusal{http.StatusBadRequest, "query", fmt.Sprintf(form, values...)}
 }

@@ -187,6 +187,28 @@ func TestSendersBringNoTombstones(t *testing.T) {
 	}
 }
 
+// What is adopted stands in the totals, and the tombstones on a page that asks for them.
+func TestAPageShowsTombstonesThatAreAskedFor(t *testing.T) {
+	s, url := served(t, 1, nil)
+	if status, said, _ := got(t, http.MethodPost, url+"/v1/messages", messageOf(t, archive(t), s.Held.ID())); status != 200 {
+		t.Fatal(status, said)
+	}
+	for _, accepted := range []string{"*/*", "application/openmetrics-text"} {
+		for query, wanted := range map[string]int{"": 0, "?tombstones=false": 0, "?tombstones=true": 1} {
+			status, page, _ := got(t, http.MethodGet, url+"/metrics"+query, nil, "Accept", accepted)
+			isWhole := strings.Contains(page, "\n"+allRequests+" 3\n") && strings.Contains(page, "kotskhin_gateway_held_points 2")
+			if found := strings.Count(page, `,otel_scope_name="kotskhin.archive",`); status != 200 || found != wanted || !isWhole {
+				t.Error(accepted, query, status, found, page)
+			}
+		}
+	}
+	for _, query := range []string{"?tombstones", "?tombstones=1", "?tombstones=true&tombstones=true"} {
+		if status, said, _ := got(t, http.MethodGet, url+"/metrics"+query, nil); status != 400 || !strings.Contains(said, "tombstones") {
+			t.Error(query, status, said)
+		}
+	}
+}
+
 // messageOf is a message of a gateway that took an export.
 func messageOf(t *testing.T, export kotskhin.Export, to uint32) []byte {
 	t.Helper()

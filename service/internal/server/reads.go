@@ -35,13 +35,13 @@ func (s *Server) withLook(request *http.Request, call func(look *held.Look) erro
 // metrics is the page for Prometheus.
 func (s *Server) metrics(w http.ResponseWriter, request *http.Request, _ tokens.Grant) error {
 	isOpenMetrics := strings.Contains(request.Header.Get("Accept"), "application/openmetrics-text")
+	tombstones, err := asksForTombstones(request.URL.Query())
+	if err != nil {
+		return err
+	}
 	var page string
 	if err := s.withLook(request, func(look *held.Look) (err error) {
-		if isOpenMetrics {
-			page, err = look.OpenMetrics()
-		} else {
-			page, err = look.Prometheus()
-		}
+		page, err = pageOf(look, isOpenMetrics, tombstones)
 		return err
 	}); err != nil {
 		return err
@@ -51,6 +51,20 @@ func (s *Server) metrics(w http.ResponseWriter, request *http.Request, _ tokens.
 		kind = kotskhin.OpenMetricsType
 	}
 	return writeText(w, kind, s.Figures.Page(page, isOpenMetrics))
+}
+
+// pageOf is a page, which is made once for all that ask. Few ask for tombstones: that page is made for each of them.
+func pageOf(look *held.Look, isOpenMetrics, tombstones bool) (string, error) {
+	switch {
+	case isOpenMetrics && tombstones:
+		return look.Gateway().OpenMetrics(kotskhin.WithTombstones())
+	case isOpenMetrics:
+		return look.OpenMetrics()
+	case tombstones:
+		return look.Gateway().Prometheus(kotskhin.WithTombstones())
+	default:
+		return look.Prometheus()
+	}
 }
 
 // table is the table that answers an ask.

@@ -334,7 +334,10 @@ class Run {
         std::optional<std::string> service;
         if (auto given = step.find("service")) service = text(*given);
         auto &gateway = the<Gateway>(step["of"]);
-        std::string page = step["format"].text == "openmetrics" ? gateway.openmetrics(service) : gateway.prometheus(service);
+        auto said = step.find("tombstones");
+        auto shown = said && said->text == "true" ? Tombstones::Shown : Tombstones::LeftOut;
+        bool is_openmetrics = step["format"].text == "openmetrics";
+        std::string page = is_openmetrics ? gateway.openmetrics(service, shown) : gateway.prometheus(service, shown);
         for (auto &line : step["has"].list) {
             if (("\n" + page).find("\n" + line.text + "\n") == std::string::npos) differs("the page has no " + line.text + ":\n" + page);
         }

@@ -206,7 +206,8 @@ class Run:
         return len(made)
 
     def page(self, step):
-        told = getattr(self.things[step["of"]], step["format"])(text(step["service"]) if "service" in step else None)
+        asked = {"tombstones": step["tombstones"]} if "tombstones" in step else {}
+        told = getattr(self.things[step["of"]], step["format"])(text(step["service"]) if "service" in step else None, **asked)
         if set(step["has"]) - set(told.splitlines()) or any(lacked in told for lacked in step["lacks"]):
             raise AssertionError(f"the page is {told!r}")
 

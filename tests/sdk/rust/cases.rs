@@ -357,9 +357,13 @@ impl Run {
 
     fn page(&self, step: &Json) -> Answer {
         let service = step.find("service").map(text).transpose()?;
-        let page = the!(self, step.get("of"), Gateway, gateway => match step.get("format").text() {
-            "openmetrics" => gateway.openmetrics(service.as_deref()),
-            _ => gateway.prometheus(service.as_deref()),
+        let (format, service) = (step.get("format").text(), service.as_deref());
+        let tombstones = matches!(step.find("tombstones"), Some(Json::Truth(true)));
+        let page = the!(self, step.get("of"), Gateway, gateway => match (format, tombstones) {
+            ("openmetrics", false) => gateway.openmetrics(service),
+            ("openmetrics", true) => gateway.openmetrics_with_tombstones(service),
+            (_, false) => gateway.prometheus(service),
+            (_, true) => gateway.prometheus_with_tombstones(service),
         })?;
         let has = |line: &Json| page.lines().any(|other| other == line.text());
         let lacks = |text: &Json| !page.contains(text.text());

@@ -481,6 +481,7 @@ unsafe extern "C" {
         only: bool,
         service: *const u8,
         service_len: usize,
+        tombstones: bool,
         text: *mut Text,
     ) -> i32;
     pub fn kit_gateway_prometheus(
@@ -488,6 +489,7 @@ unsafe extern "C" {
         only: bool,
         service: *const u8,
         service_len: usize,
+        tombstones: bool,
         text: *mut Text,
     ) -> i32;
     pub fn kit_gateway_open(

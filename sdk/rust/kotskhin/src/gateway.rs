@@ -16,7 +16,8 @@ use kotskhin_sys::{
 use std::ptr;
 
 /// A call that makes a page.
-type Page = unsafe extern "C" fn(*mut sys::Gateway, bool, *const u8, usize, *mut sys::Text) -> i32;
+type Page =
+    unsafe extern "C" fn(*mut sys::Gateway, bool, *const u8, usize, bool, *mut sys::Text) -> i32;
 
 /// The newest points of all writers that were brought to it, in whatever order and however often.
 ///
@@ -168,20 +169,30 @@ impl Gateway {
     ///
     /// Refused: `NoMemory`.
     pub fn openmetrics(&self, service: Option<&str>) -> Result<String, Error> {
-        self.render_page(service, kit_gateway_openmetrics)
+        self.render_page(service, false, kit_gateway_openmetrics)
     }
 
     /// The same page in Prometheus' text format 0.0.4, with `Content-Type: text/plain; version=0.0.4; charset=utf-8`. Refused: `NoMemory`.
     pub fn prometheus(&self, service: Option<&str>) -> Result<String, Error> {
-        self.render_page(service, kit_gateway_prometheus)
+        self.render_page(service, false, kit_gateway_prometheus)
     }
 
-    fn render_page(&self, service: Option<&str>, call: Page) -> Result<String, Error> {
+    /// The page of [`openmetrics`](Self::openmetrics) with the tombstones of archives: a row for each incarnation that one adopted.
+    pub fn openmetrics_with_tombstones(&self, service: Option<&str>) -> Result<String, Error> {
+        self.render_page(service, true, kit_gateway_openmetrics)
+    }
+
+    /// The page of [`prometheus`](Self::prometheus) with the tombstones of archives.
+    pub fn prometheus_with_tombstones(&self, service: Option<&str>) -> Result<String, Error> {
+        self.render_page(service, true, kit_gateway_prometheus)
+    }
+
+    fn render_page(&self, service: Option<&str>, tombstones: bool, call: Page) -> Result<String, Error> {
         let (mut text, only) = (Handle::empty(), service.is_some());
         let service = service.unwrap_or_default();
         let (at, len) = (service.as_ptr(), service.len());
         // SAFETY: the gateway is lent, the text is ours alone, and the service is a slice's pointer and length.
-        check(unsafe { call(self.0.read().at(), only, at, len, text.change()) })?;
+        check(unsafe { call(self.0.read().at(), only, at, len, tombstones, text.change()) })?;
         copy_text(&text)
     }
 
