@@ -274,6 +274,7 @@ module _ {N : Type 0} (q : Rounding N Key WriterId Name Payload) (sound : IsSoun
         left : (o : Option (List ℕ)) (p : KeyedCell → Bool) (es : List KeyedCell) → filter p (left_in o es) ≡ filter (λ e. is_left_in o e.0 && p e) es
         left None p es = refl
         left (Some scope) p es = filter_twice (λ (e : KeyedCell). is_left_in (Some scope) e.0) p es
+
         served : (o : Option (List ℕ)) (p : KeyedCell → Bool) → filter p (asked_cells o (state r ms)) ≡ filter (λ e. is_asked o e.0 && p e) held
         served None p = refl
         served (Some t) p = filter_twice (λ (e : KeyedCell). is_of t e.0.writer) p held
