@@ -394,6 +394,7 @@ class Gate:
         (TOP / "docs" / "maintain" / "log").mkdir(parents=True, exist_ok=True)
         (TOP / "docs" / "maintain" / "log" / "gate.md").write_text(page, encoding="utf-8")
         print(page)
+        rt.say("minutes by the clock: " + ", ".join(f"{name} {seconds / 60:.1f}" for name, seconds in self.stages))
         rt.say(" ".join(self.not_proved()))
         if self.skipped:
             rt.say(f"left, {'for want of time' if self.is_whole else 'for want of time or of a proof'}: {' '.join(self.skipped)}")
