@@ -828,8 +828,9 @@ KIT_CHECKED int32_t kit_export_decode(kit_export *export_, const uint8_t *bytes,
 /* Archives adopt ended incarnations of others: their points are those that they adopted, added up, and a tombstone for each. */
 
 /* Begins an archive that adopted nothing, with at most so many totals, of which each is a stream's at an attribute set. It is a writer of
- * its own: the instance is a UUID as two numbers, which no other writer has, archives among them. The start is in nanoseconds since the
- * Unix epoch.
+ * its own: the instance is a UUID as two numbers, drawn anew, which no other writer has, archives among them. The start is in nanoseconds
+ * since the Unix epoch. Let it be 1, before each worker's. Of two metrics that claim one name a page shows the youngest incarnation's. So
+ * an archive that begins later than the workers can hide a live metric by one of an old plan that it adopted.
  *
  * Refused, in this order: KIT_FULL; KIT_NOT_TEXT where the service is no UTF-8; KIT_NO_MEMORY. */
 KIT_CHECKED int32_t kit_archive_begin(kit_archive *archive, const uint8_t *service, size_t service_len, uint64_t instance_high,

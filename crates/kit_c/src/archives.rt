@@ -38,8 +38,9 @@ fn identity(alloc: Global, service: &[u8], high: u64, low: u64) -> Result<Writer
 }
 
 /// Begins an archive that adopted nothing, with at most so many totals, of which each is a stream's at an attribute set. It is a writer of
-/// its own: the instance is a UUID as two numbers, which no other writer has, archives among them. The start is in nanoseconds since the
-/// Unix epoch.
+/// its own: the instance is a UUID as two numbers, drawn anew, which no other writer has, archives among them. The start is in nanoseconds
+/// since the Unix epoch. Let it be 1, before each worker's. Of two metrics that claim one name a page shows the youngest incarnation's. So
+/// an archive that begins later than the workers can hide a live metric by one of an old plan that it adopted.
 ///
 /// Refused, in this order: `FULL`; `NOT_TEXT` where the service is no UTF-8; `NO_MEMORY`.
 #[unsafe(no_mangle)]

@@ -187,7 +187,12 @@ impl Gateway {
         self.render_page(service, true, kit_gateway_prometheus)
     }
 
-    fn render_page(&self, service: Option<&str>, tombstones: bool, call: Page) -> Result<String, Error> {
+    fn render_page(
+        &self,
+        service: Option<&str>,
+        tombstones: bool,
+        call: Page,
+    ) -> Result<String, Error> {
         let (mut text, only) = (Handle::empty(), service.is_some());
         let service = service.unwrap_or_default();
         let (at, len) = (service.as_ptr(), service.len());
