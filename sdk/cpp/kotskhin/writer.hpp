@@ -42,6 +42,8 @@ public:
         check(kit_recorder_len(handle.lent().at(), &count));
         return count;
     }
+    // Whether it has nothing that is still to be taken in.
+    bool is_empty() const { return len() == 0; }
     void clear() { check(kit_recorder_clear(handle.at())); }
 };
 

@@ -254,6 +254,20 @@ static void archives_hide_no_metric() {
     CHECK(archive.start() == 1 && gateway.prometheus("shop").find("# TYPE sales gauge\n") != std::string::npos);
 }
 
+static void recorders_tell_what_they_have() {
+    Writer writer(plan(), "shop", 0, 1, 100);
+    Recorder made(2), log = std::move(made);
+    const Recorder &read = log;
+    CHECK(read.is_empty() && throws<Nothing>([&] { made.is_empty(); }));
+    log.measure(0, {}, 7);
+    CHECK(!read.is_empty() && read.len() == 1);
+    writer.take_in(log);
+    CHECK(read.is_empty());
+    log.measure(0, {}, 1);
+    log.clear();
+    CHECK(read.is_empty() && writer.collect(200).head().points == 1);
+}
+
 int main() {
     return checked_all({{"moved", moved},
                         {"temporaries and ranges", temporaries_and_ranges},
@@ -263,5 +277,6 @@ int main() {
                         {"what reads is const", what_reads_is_const},
                         {"receivers look first", receivers_look_first},
                         {"archives adopt what has ended", archives_adopt_what_has_ended},
-                        {"archives hide no metric", archives_hide_no_metric}});
+                        {"archives hide no metric", archives_hide_no_metric},
+                        {"recorders tell what they have", recorders_tell_what_they_have}});
 }
