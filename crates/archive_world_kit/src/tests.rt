@@ -7,10 +7,10 @@ ghost use Rattle.gossip_kit.specs.Gossip.{acked_after, answer_of};
 ghost use Rattle.point_kit.specs.Exports.{state};
 
 use crate::{
-    archives_are_asked_as_adopted, archives_change_no_answer, archives_change_no_page,
-    forgetting_loses_nothing, held_collections_tell_what_was_fed, incarnations_are_adopted_once,
-    nodes_count_adopted_once, nodes_hold_newest_collections, nodes_show_what_they_took,
-    pages_count_adopted_once, payloads_add_up, rows_count_adopted_once,
+    adopt_beside, archives_are_asked_as_adopted, archives_change_no_answer,
+    archives_change_no_page, forgetting_loses_nothing, held_collections_tell_what_was_fed,
+    incarnations_are_adopted_once, nodes_count_adopted_once, nodes_hold_newest_collections,
+    nodes_show_what_they_took, pages_count_adopted_once, payloads_add_up, rows_count_adopted_once,
 };
 use archive_kit::{Archive, Keeper};
 use attr_kit::{AttrSet, NoMemory, Seq, Txt};
@@ -149,6 +149,23 @@ fn nodes_that_forget_show_the_same(rt: HostRuntime) -> Result<(), Fail> {
     let there = forget(&mut two, &worker, 100) == 1;
     let same = one.gateway().same(two.gateway()) && merge(&mut one, two.gateway())? == 0;
     assert!(rt; told && forgotten && again && there && same);
+    Ok(())
+}
+
+// What a node, and a keeper that took an archive's export beside it, hold of one worker.
+fn newest_of_both(alloc: Global, worker: &WriterId) -> Option<(Option<u64>, Option<u64>)> {
+    let (plain, keeper) = adopt_beside(alloc, 7)?;
+    Some((
+        plain.gateway().newest(worker, 100),
+        keeper.gateway().newest(worker, 100),
+    ))
+}
+
+#[test]
+fn a_keeper_forgets_what_an_archive_adopted(rt: HostRuntime) -> Result<(), Fail> {
+    let alloc = rt.alloc();
+    let worker = writer(alloc, 1)?;
+    assert_eq!(rt; newest_of_both(alloc, &worker), Some((Some(200), None)));
     Ok(())
 }
 
